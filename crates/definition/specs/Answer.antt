@@ -2,6 +2,7 @@
 use Prim.Native.Nat.{ℕ}
 use mathlib.Core.Bool.{Bool, true, false}
 use mathlib.Core.List.{List, [], _∷_}
+use lib.Dec.{ltb}
 use Rattle.definition.specs.State.{Pair}
 
 -- the image that a fetched part lies in
@@ -65,3 +66,19 @@ successWith1 x = registers 129 x 0 0
 
 abbrev pub successWith2 : Pair → Answer
 successWith2 x = registers 130 (x .first) (x .second) 0
+
+-- ---- answers that tell that nothing was changed: a refusal, a Failure of any variant, and a fetch, which only reads
+
+abbrev pub changesNothing : Answer → Bool
+changesNothing (refused n) = true
+changesNothing (registers r0 r1 r2 r3) = ltb r0 128
+changesNothing (delivered pointer r0 r1 r2 r3) = false
+changesNothing waits = false
+changesNothing nothing = false
+changesNothing taken = false
+changesNothing deposited = false
+changesNothing latched = false
+changesNothing started = false
+changesNothing (terminated code) = false
+changesNothing (restarted code) = false
+changesNothing (fetched n x) = true

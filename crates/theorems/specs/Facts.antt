@@ -17,6 +17,12 @@ use Rattle.definition.specs.Tests.{if_then_else_, allOf, everyBelow, pairwiseBe
 pub clash : {A : Type 0} {t : Bool} → t ≡ true → t ≡ false → A
 clash p q = absurd (let z : _≡_ {A = ℕ} 0 1 = cc in omega arith)
 
+-- what holds of both choices holds of the one that is taken
+pub either : {A : Type 0} (P : A → Type 0) (t : Bool) (x y : A) → (t ≡ true → P x) → (t ≡ false → P y) → P (if t then x else y)
+unfolding if_then_else_
+either P true x y f g = f refl
+either P false x y f g = g refl
+
 pub both : (s t : Bool) → (s && t) ≡ true → (s ≡ true) × (t ≡ true)
 both true true e = (refl, refl)
 both true false e = (refl, e)
@@ -37,6 +43,9 @@ implies false t f = refl
 pub or-false : (s t : Bool) → (s || t) ≡ true → s ≡ false → t ≡ true
 or-false true t e q = clash refl q
 or-false false t e q = e
+
+pub or-left : (s t : Bool) → s ≡ true → (s || t) ≡ true
+or-left s t e = rw e
 
 pub or-right : (s t : Bool) → t ≡ true → (s || t) ≡ true
 or-right true t e = refl
