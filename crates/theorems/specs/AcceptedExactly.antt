@@ -20,7 +20,7 @@ use Rattle.definition.specs.Decide.{call, Outcome, answers, notInstalled, decid
 use Rattle.definition.specs.World.{World, owns, commandAnswer, answerOf, viewOf, perform, step}
 use Rattle.definition.specs.WellFormed.{goodState}
 use Rattle.definition.specs.Accepted.{areasIn, processIn, claimIn, bufferIn, answerTo, Runs, Permitted, Lies, MayHold, Exchanges, Commands, SharedCommands, BreakMoves, MovedBy, AcceptedExactly}
-use Rattle.theorems.specs.Facts.{clash, each-holds, passed, pass, pass-none}
+use Rattle.theorems.specs.Facts.{never, clash, each-holds, passed, pass, pass-none}
 use Rattle.theorems.specs.Told.{Tells, le-told, lt-told, eq-told, within-told, contains-told, not-told, and-told, or-told, implies-told, all-told, none-told, every-told, neither, if-told, else-told, unless-told, if-holds, unless-holds}
 use Rattle.theorems.specs.Slots.{areaBy}
 use Rattle.theorems.specs.Places.{place-number, number-place}
@@ -264,7 +264,7 @@ module _ (w : World) (good : goodState (w .state) ≡ true) (p : ℕ) (S : Answe
 -- ---- all calls
 
 apart : (code : ℕ) → ¬ (terminated code ≡ restarted code)
-apart code e = let z : _≡_ {A = ℕ} 0 1 = cc in omega arith
+apart code e = never (cc)
 
 pub accepted-exactly : (w : World) → goodState (w .state) ≡ true → (p : ℕ) → AcceptedExactly w p
 unfolding commandAnswer if_then_else_

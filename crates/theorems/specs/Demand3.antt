@@ -16,7 +16,7 @@ use Rattle.definition.specs.Runs.{isOwn, isNobodys, those, ownSteps, ownAndNobo
 use Rattle.definition.specs.Image.{boardOf, goodBoardWords, imageOf, stateOf}
 use Rattle.definition.specs.Table.{Lent, lentOf, tableStep, start}
 use Rattle.definition.specs.Promises.{after, answersOf, recordOf, ramIn, Alike, Isolated, Isolation}
-use Rattle.theorems.specs.Facts.{either, passed, or-left}
+use Rattle.theorems.specs.Facts.{never, either, passed, or-left}
 use Rattle.theorems.specs.Good.{Good, of-good, fresh-good}
 use Rattle.theorems.specs.ImageBack.{good-back}
 use Rattle.theorems.specs.BoardBack.{board-fits}
@@ -35,7 +35,7 @@ pub record Started (words : List ℕ) (x : Lent) : Type 0 where
 
 -- a refusal is no accepted start
 refused-not-started : {A : Type 0} (n : ℕ) → refused n ≡ started → A
-refused-not-started n e = absurd (let z : _≡_ {A = ℕ} 0 1 = cc in omega arith)
+refused-not-started n e = never (cc)
 
 pub accepted-start : (words : List ℕ) (x : Lent) → start words x .answer ≡ started → Started words x
 unfolding start

@@ -13,9 +13,13 @@ use Rattle.definition.specs.Tests.{if_then_else_, allOf, everyBelow, pairwiseBe
 
 -- ---- tests
 
+-- from two constructors that were said to be equal, which `cc` turns into 0 ≡ 1
+pub never : {A : Type 0} → _≡_ {A = ℕ} 0 1 → A
+never e = absurd (omega arith)
+
 -- a test cannot both hold and fail
 pub clash : {A : Type 0} {t : Bool} → t ≡ true → t ≡ false → A
-clash p q = absurd (let z : _≡_ {A = ℕ} 0 1 = cc in omega arith)
+clash p q = never (cc)
 
 -- what holds of both choices holds of the one that is taken
 pub either : {A : Type 0} (P : A → Type 0) (t : Bool) (x y : A) → (t ≡ true → P x) → (t ≡ false → P y) → P (if t then x else y)

@@ -20,7 +20,7 @@ use Rattle.definition.specs.Decide.{Action, View, areasOf, Outcome, answers, ex
 use Rattle.definition.specs.World.{cancel, isEmpty, hold, afterExchange, Write, noWrite, processAfter, writeOf}
 use Rattle.definition.specs.WellFormed.{kindAt, goodSlot}
 use Rattle.definition.specs.History.{Each, none, more}
-use Rattle.theorems.specs.Facts.{clash, and, both, below-at, contains-true, set-each, getD-same}
+use Rattle.theorems.specs.Facts.{never, clash, and, both, below-at, contains-true, set-each, getD-same}
 use Rattle.theorems.specs.Why.{Why, Because, Slot, Exchanged, Moved, Queued, Written, Left, ended, again}
 use Rattle.theorems.specs.Slots.{slot-bound, slot-one, slot-null, slot-low, slot-carry, slot-new, held-holdable, moved-holdable, writable-inside}
 
@@ -127,8 +127,8 @@ module _ (b : Board) (a : Areas) (g : Ground b a) where
   exchange-carried : (slots : List Pair) (kind : Kind) (k j : ℕ) (x : Pair) → k < length (b .drivers) → j < slotsOf kind (driverAt b k) → (q : List Upcall) → Each (Carried b slots) q
       → Each (Carried b (set slots (slotAt kind k j) x)) (afterExchange kind k j q)
   exchange-carried slots subscribe k j x hk hj q c = cancel-carried slots k j x hk hj q c
-  exchange-carried slots readWrite k j x hk hj q c = allow-carried slots readWrite k j x hk hj (λ e. let z : _≡_ {A = ℕ} 0 1 = cc in omega arith) q c
-  exchange-carried slots readOnly k j x hk hj q c = allow-carried slots readOnly k j x hk hj (λ e. let z : _≡_ {A = ℕ} 0 1 = cc in omega arith) q c
+  exchange-carried slots readWrite k j x hk hj q c = allow-carried slots readWrite k j x hk hj (λ e. never (cc)) q c
+  exchange-carried slots readOnly k j x hk hj q c = allow-carried slots readOnly k j x hk hj (λ e. never (cc)) q c
 
 exchange-length : (kind : Kind) (k j : ℕ) (q : List Upcall) → length (afterExchange kind k j q) ≤ length q
 exchange-length subscribe k j q = cancel-length k j q

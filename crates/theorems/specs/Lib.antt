@@ -17,3 +17,6 @@ pub mod Told
 pub mod Places
 pub mod AcceptedExactly
 pub mod Demand3
+pub mod SlotsTold
+pub mod QueueTold
+pub mod Demand2

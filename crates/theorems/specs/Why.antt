@@ -223,7 +223,7 @@ module _ (v : View) (process : Process) (live : Live v process) (class r0 r1 r2 
       pick _ (λ _. yield-decided) λ _. pick _ (exchange-decided subscribe) λ _. pick _ command-decided λ _. pick _ (exchange-decided readWrite) λ _.
       pick _ (exchange-decided readOnly) λ _. pick _ (λ _. memop-decided) λ _. pick _ (λ _. exit-decided) λ _. set-aside _ refl
 
-refuse-plain : (a : Action) (n : ℕ) → isPlain (refuse a n) ≡ true
+pub refuse-plain : (a : Action) (n : ℕ) → isPlain (refuse a n) ≡ true
 refuse-plain (call class r0 r1 r2 r3) n = refl
 refuse-plain (event driver j x y z) n = refl
 refuse-plain resume n = refl
