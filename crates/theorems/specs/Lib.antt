@@ -20,3 +20,5 @@ pub mod Demand3
 pub mod SlotsTold
 pub mod QueueTold
 pub mod Demand2
+pub mod Fetched
+pub mod Stale
