@@ -1,0 +1,4 @@
+pub mod Splice
+pub mod Zero
+pub mod Loops
+pub mod Splices
