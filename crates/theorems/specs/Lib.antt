@@ -22,3 +22,5 @@ pub mod QueueTold
 pub mod Demand2
 pub mod Fetched
 pub mod Stale
+pub mod Zero
+pub mod Form

@@ -5,7 +5,7 @@ ghost use mathlib.Core.List.{List, [], _∷_};
 ghost use Prim.Native.Nat.{ℕ, _+_, _≤_, _<_};
 ghost use lib.ListN.{length, getD, replicate};
 ghost use Rattle.words.specs.Splice.{splice, shifted};
-ghost use Rattle.words.specs.Zero.{allZero};
+ghost use Rattle.theorems.specs.Zero.{allZero};
 
 // The word at a place, as an index.
 pub fn word(t: &[u32], at: usize) -> usize

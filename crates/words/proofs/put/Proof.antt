@@ -22,8 +22,7 @@ loop-again c =
     let l = c .before .before .loop in
     let t = s .args .t .now in
     let row = s .args .row .now in
-    let at = s .args .at in
-    (
+    let at = s .args .at in (
       omega arith,
       simp length-set (omega arith),
       ap (λ (x : _). set x (at + l .i) (getD row (l .i) 0)) (l .inv .2) ∙ paste-suc t at row (l .i) 0 (omega arith) (omega arith) ∙ ap (paste t at row) (sym (add-one (l .i))),
