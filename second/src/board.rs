@@ -1,0 +1,225 @@
+//! The limits, the board's words and what makes a board good.
+
+/// Most processes on a board.
+pub const MAX_PROCESSES: usize = 8;
+/// Most drivers on a board.
+pub const MAX_DRIVERS: usize = 16;
+/// Most slots of each of the three kinds that one driver has.
+pub const MAX_SLOTS: u32 = 4;
+/// Bytes of the memory image, and bytes of the flash image.
+pub const IMAGE_SIZE: usize = 65_536;
+
+/// The addresses that the memory image covers.
+pub const MEMORY: Area = Area::new(0x2000_0000, 0x2001_0000);
+/// The addresses that the flash image covers.
+pub const FLASH: Area = Area::new(0x0004_0000, 0x0005_0000);
+
+const PROCESS_WORDS: usize = 7;
+const DRIVER_WORDS: usize = 5;
+
+/// Words of the largest board.
+pub const MAX_BOARD_WORDS: usize = board_words(MAX_PROCESSES, MAX_DRIVERS);
+
+/// Words of a board with this many processes and drivers.
+pub const fn board_words(processes: usize, drivers: usize) -> usize {
+    2 + PROCESS_WORDS * processes + DRIVER_WORDS * drivers
+}
+
+/// A process, by its index on the board.
+#[derive(Clone, Copy, Debug, PartialEq, Eq)]
+pub struct ProcessIndex(pub u32);
+
+impl ProcessIndex {
+    /// Its place in a list of processes; past the end if there is no such process.
+    pub fn place(self) -> usize {
+        self.0 as usize
+    }
+}
+
+/// A driver, by the number that programs call it by.
+#[derive(Clone, Copy, Debug, PartialEq, Eq)]
+pub struct DriverNumber(pub u32);
+
+/// An installed driver, by its place in board order.
+#[derive(Clone, Copy, Debug, PartialEq, Eq)]
+pub struct DriverPlace(pub usize);
+
+/// The addresses from `start` up to, not including, `end`.
+#[derive(Clone, Copy, Debug, PartialEq, Eq)]
+pub struct Area {
+    pub start: u32,
+    pub end: u32,
+}
+
+impl Area {
+    pub const fn new(start: u32, end: u32) -> Area {
+        Area { start, end }
+    }
+
+    pub fn contains(self, address: u32) -> bool {
+        self.start <= address && address < self.end
+    }
+
+    /// Whether `size` bytes from `address` on lie wholly inside. The sum is
+    /// taken in 64 bits: in 32 bits it would wrap to a small address.
+    pub fn holds(self, address: u32, size: u32) -> bool {
+        self.start <= address && u64::from(address) + u64::from(size) <= u64::from(self.end)
+    }
+
+    fn is_empty(self) -> bool {
+        self.end <= self.start
+    }
+
+    fn lies_in(self, outer: Area) -> bool {
+        outer.start <= self.start && self.end <= outer.end
+    }
+
+    fn is_disjoint_from(self, other: Area) -> bool {
+        self.end <= other.start || other.end <= self.start
+    }
+}
+
+/// What the board says of one process.
+#[derive(Clone, Copy, Debug, PartialEq, Eq)]
+pub struct ProcessBoard {
+    /// [S, E)
+    pub ram: Area,
+    /// G
+    pub grant_start: u32,
+    /// B
+    pub first_break: u32,
+    /// [F, FE)
+    pub flash: Area,
+    /// Bit k is driver k in board order.
+    pub permissions: u32,
+}
+
+impl ProcessBoard {
+    fn from_words(words: &[u32]) -> ProcessBoard {
+        ProcessBoard {
+            ram: Area::new(words[0], words[1]),
+            grant_start: words[2],
+            first_break: words[3],
+            flash: Area::new(words[4], words[5]),
+            permissions: words[6],
+        }
+    }
+
+    pub fn permits(&self, driver: DriverPlace) -> bool {
+        (self.permissions >> driver.0) & 1 == 1
+    }
+
+    fn is_good(&self, drivers: usize) -> bool {
+        self.has_good_ram() && self.has_good_flash() && u64::from(self.permissions) >> drivers == 0
+    }
+
+    fn has_good_ram(&self) -> bool {
+        self.ram.lies_in(MEMORY)
+            && !self.ram.is_empty()
+            && self.ram.start <= self.first_break
+            && self.first_break <= self.grant_start
+            && self.grant_start <= self.ram.end
+    }
+
+    fn has_good_flash(&self) -> bool {
+        self.flash.lies_in(FLASH) && !self.flash.is_empty()
+    }
+}
+
+/// What the board says of one driver.
+#[derive(Clone, Copy, Debug, PartialEq, Eq)]
+pub struct DriverBoard {
+    pub number: DriverNumber,
+    pub subscribe_slots: u32,
+    pub read_write_slots: u32,
+    pub read_only_slots: u32,
+    pub shared: bool,
+}
+
+impl DriverBoard {
+    /// None if the shared word is neither 0 nor 1.
+    fn from_words(words: &[u32]) -> Option<DriverBoard> {
+        let shared = match words[4] {
+            0 => false,
+            1 => true,
+            _ => return None,
+        };
+        Some(DriverBoard {
+            number: DriverNumber(words[0]),
+            subscribe_slots: words[1],
+            read_write_slots: words[2],
+            read_only_slots: words[3],
+            shared,
+        })
+    }
+
+    fn is_good(&self) -> bool {
+        [self.subscribe_slots, self.read_write_slots, self.read_only_slots]
+            .iter()
+            .all(|&slots| slots <= MAX_SLOTS)
+    }
+}
+
+/// A good board: there is no other way to get one than `from_words`.
+#[derive(Clone, Debug, PartialEq, Eq)]
+pub struct Board {
+    processes: Vec<ProcessBoard>,
+    drivers: Vec<DriverBoard>,
+}
+
+impl Board {
+    /// The board that these words describe, or None if it is not good.
+    pub fn from_words(words: &[u32]) -> Option<Board> {
+        let (&processes, rest) = words.split_first()?;
+        let processes = count(processes, 1, MAX_PROCESSES)?;
+        let (process_words, rest) = rest.split_at_checked(PROCESS_WORDS * processes)?;
+        let (&drivers, driver_words) = rest.split_first()?;
+        let drivers = count(drivers, 0, MAX_DRIVERS)?;
+        if driver_words.len() != DRIVER_WORDS * drivers {
+            return None;
+        }
+        let board = Board {
+            processes: process_words
+                .chunks_exact(PROCESS_WORDS)
+                .map(ProcessBoard::from_words)
+                .collect(),
+            drivers: driver_words
+                .chunks_exact(DRIVER_WORDS)
+                .map(DriverBoard::from_words)
+                .collect::<Option<_>>()?,
+        };
+        board.is_good().then_some(board)
+    }
+
+    pub fn processes(&self) -> &[ProcessBoard] {
+        &self.processes
+    }
+
+    pub fn drivers(&self) -> &[DriverBoard] {
+        &self.drivers
+    }
+
+    /// Where the driver stands on the board, if it is installed.
+    pub fn find_driver(&self, number: DriverNumber) -> Option<DriverPlace> {
+        self.drivers.iter().position(|driver| driver.number == number).map(DriverPlace)
+    }
+
+    fn is_good(&self) -> bool {
+        let drivers = self.drivers.len();
+        self.processes.iter().all(|process| process.is_good(drivers))
+            && self.drivers.iter().all(DriverBoard::is_good)
+            && every_pair(&self.processes, |a, b| a.ram.is_disjoint_from(b.ram))
+            && every_pair(&self.processes, |a, b| a.flash.is_disjoint_from(b.flash))
+            && every_pair(&self.drivers, |a, b| a.number != b.number)
+    }
+}
+
+/// The word as a count, if it is from `least` to `most`.
+fn count(word: u32, least: usize, most: usize) -> Option<usize> {
+    let count = word as usize;
+    (least <= count && count <= most).then_some(count)
+}
+
+fn every_pair<T>(items: &[T], holds: impl Fn(&T, &T) -> bool) -> bool {
+    items.iter().enumerate().all(|(place, a)| items[place + 1..].iter().all(|b| holds(a, b)))
+}

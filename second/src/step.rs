@@ -1,0 +1,263 @@
+//! The steps, their answers and their refusals. Calls are in `call`.
+
+use crate::board::{DriverNumber, DriverPlace, ProcessIndex, FLASH};
+use crate::state::{
+    flash_place, memory_place, Access, Activity, Buffer, Machine, Process, QueuedUpcall,
+    QUEUE_CAPACITY,
+};
+use crate::variant::{Registers, ReturnVariant};
+
+/// A step after the start. A deposit's bytes are a part of the trace.
+#[derive(Clone, Copy, Debug, PartialEq, Eq)]
+pub enum Step<'a> {
+    Call { process: ProcessIndex, class: u8, registers: Registers },
+    Event { process: ProcessIndex, driver: DriverNumber, slot: u32, arguments: [u32; 3] },
+    Resume { process: ProcessIndex },
+    Deposit { process: ProcessIndex, driver: DriverNumber, slot: u32, offset: u32, bytes: &'a [u8] },
+    Fetch { process: ProcessIndex, driver: DriverNumber, slot: u32, offset: u32, length: u32 },
+    Latch { driver: DriverNumber, peak: i32 },
+}
+
+/// Refusals by number. 1 and 2 (a lent image or table that is not right) have
+/// no place here: this program lends nothing.
+#[derive(Clone, Copy, Debug, PartialEq, Eq)]
+pub enum Refusal {
+    NoSuchProcess = 3,
+    ProcessExited = 4,
+    CallWhileWaiting = 5,
+    ResumeWhileRunning = 6,
+    DriverNotInstalled = 7,
+    NoSuchSlot = 8,
+    BeyondHeldSize = 9,
+    QueueFull = 10,
+    NullUpcall = 11,
+    NotShared = 12,
+    BoardNotGood = 13,
+}
+
+/// What an accepted step gives.
+#[derive(Clone, Copy, Debug, PartialEq, Eq)]
+pub enum Answer {
+    Returned(ReturnVariant),
+    /// A delivery: the upcall's pointer and its four registers.
+    Delivered {
+        pointer: u32,
+        registers: Registers,
+    },
+    Waiting,
+    Nothing,
+    Exited {
+        code: u32,
+    },
+    Restarted {
+        code: u32,
+    },
+    EventTaken,
+    Deposited,
+    Latched,
+    Fetched(Part),
+}
+
+#[derive(Clone, Copy, Debug, PartialEq, Eq)]
+pub enum Image {
+    Memory,
+    Flash,
+}
+
+/// A part of one of the two images.
+#[derive(Clone, Copy, Debug, PartialEq, Eq)]
+pub struct Part {
+    pub image: Image,
+    pub start: usize,
+    pub length: usize,
+}
+
+impl Part {
+    /// What a fetch of length 0 hands back: it touches no address.
+    pub const EMPTY: Part = Part { image: Image::Memory, start: 0, length: 0 };
+
+    /// A non-empty part of a held buffer, already known to lie inside it.
+    fn of(held: Buffer, offset: u32, length: u32) -> Part {
+        let address = held.address + offset;
+        let (image, start) = if FLASH.contains(address) {
+            (Image::Flash, flash_place(address))
+        } else {
+            (Image::Memory, memory_place(address))
+        };
+        Part { image, start, length: length as usize }
+    }
+}
+
+impl Machine {
+    /// One step. A refusal changes nothing.
+    pub fn step(&mut self, step: Step) -> Result<Answer, Refusal> {
+        match step {
+            Step::Call { process, class, registers } => self.call(process, class, registers),
+            Step::Event { process, driver, slot, arguments } => {
+                self.event(process, driver, slot, arguments)
+            }
+            Step::Resume { process } => self.resume(process),
+            Step::Deposit { process, driver, slot, offset, bytes } => {
+                self.deposit(process, driver, slot, offset, bytes)
+            }
+            Step::Fetch { process, driver, slot, offset, length } => {
+                self.fetch(process, driver, slot, offset, length)
+            }
+            Step::Latch { driver, peak } => self.latch(driver, peak),
+        }
+    }
+
+    /// Queues an upcall. Refused in the order 3, 4, 7, 8, 11, 10.
+    pub fn event(
+        &mut self,
+        process: ProcessIndex,
+        driver: DriverNumber,
+        slot: u32,
+        arguments: [u32; 3],
+    ) -> Result<Answer, Refusal> {
+        self.check_not_exited(process)?;
+        let driver = self.installed(driver)?;
+        let record = &mut self.processes[process.place()];
+        let upcall = *existing(&record.slots[driver.0].subscribe, slot)?;
+        if upcall.is_null() {
+            return Err(Refusal::NullUpcall);
+        }
+        if record.queue.len() == QUEUE_CAPACITY {
+            return Err(Refusal::QueueFull);
+        }
+        record.queue.push_back(QueuedUpcall { driver, slot, arguments, upcall });
+        Ok(Answer::EventTaken)
+    }
+
+    /// Delivers to a waiting process. Refused in the order 3, 4, 6.
+    pub fn resume(&mut self, process: ProcessIndex) -> Result<Answer, Refusal> {
+        self.check_not_exited(process)?;
+        let record = &mut self.processes[process.place()];
+        if record.activity == Activity::Running {
+            return Err(Refusal::ResumeWhileRunning);
+        }
+        Ok(record.deliver_or_wait())
+    }
+
+    /// Writes into a held read-write buffer. Refused in the order 3, 4, 7, 8, 9.
+    pub fn deposit(
+        &mut self,
+        process: ProcessIndex,
+        driver: DriverNumber,
+        slot: u32,
+        offset: u32,
+        bytes: &[u8],
+    ) -> Result<Answer, Refusal> {
+        let held = self.held(process, driver, Access::ReadWrite, slot)?;
+        check_within(held, offset, bytes.len() as u64)?;
+        // An empty deposit touches no address: the buffer's may be outside the image.
+        if !bytes.is_empty() {
+            let start = memory_place(held.address + offset);
+            self.memory[start..start + bytes.len()].copy_from_slice(bytes);
+        }
+        Ok(Answer::Deposited)
+    }
+
+    /// Reads a held read-only buffer. Refused in the order 3, 4, 7, 8, 9.
+    pub fn fetch(
+        &self,
+        process: ProcessIndex,
+        driver: DriverNumber,
+        slot: u32,
+        offset: u32,
+        length: u32,
+    ) -> Result<Answer, Refusal> {
+        let held = self.held(process, driver, Access::ReadOnly, slot)?;
+        check_within(held, offset, u64::from(length))?;
+        let part = if length == 0 { Part::EMPTY } else { Part::of(held, offset, length) };
+        Ok(Answer::Fetched(part))
+    }
+
+    /// Stores a shared driver's value. Refused in the order 7, 12.
+    pub fn latch(&mut self, driver: DriverNumber, peak: i32) -> Result<Answer, Refusal> {
+        let driver = self.installed(driver)?;
+        if !self.board.drivers()[driver.0].shared {
+            return Err(Refusal::NotShared);
+        }
+        self.drivers[driver.0].latch = peak;
+        Ok(Answer::Latched)
+    }
+
+    /// The bytes of a part that a fetch handed back.
+    pub fn bytes(&self, part: Part) -> &[u8] {
+        let image = match part.image {
+            Image::Memory => &self.memory,
+            Image::Flash => &self.flash,
+        };
+        &image[part.start..part.start + part.length]
+    }
+
+    /// Refusals 3 and 4.
+    pub(crate) fn check_not_exited(&self, process: ProcessIndex) -> Result<(), Refusal> {
+        let record = self.processes.get(process.place()).ok_or(Refusal::NoSuchProcess)?;
+        match record.activity {
+            Activity::Exited => Err(Refusal::ProcessExited),
+            Activity::Running | Activity::Waiting => Ok(()),
+        }
+    }
+
+    /// Refusal 7. Drivers' own steps do not look at the permission mask.
+    fn installed(&self, driver: DriverNumber) -> Result<DriverPlace, Refusal> {
+        self.board.find_driver(driver).ok_or(Refusal::DriverNotInstalled)
+    }
+
+    /// The held buffer that a deposit or fetch names: refusals 3, 4, 7, 8.
+    fn held(
+        &self,
+        process: ProcessIndex,
+        driver: DriverNumber,
+        access: Access,
+        slot: u32,
+    ) -> Result<Buffer, Refusal> {
+        self.check_not_exited(process)?;
+        let driver = self.installed(driver)?;
+        let slots = &self.processes[process.place()].slots[driver.0];
+        existing(slots.buffers(access), slot).copied()
+    }
+}
+
+impl Process {
+    /// Removes the first queued upcall and gives it to the process.
+    pub(crate) fn deliver(&mut self) -> Option<Answer> {
+        let QueuedUpcall { arguments, upcall, .. } = self.queue.pop_front()?;
+        let [argument0, argument1, argument2] = arguments;
+        Some(Answer::Delivered {
+            pointer: upcall.pointer,
+            registers: [argument0, argument1, argument2, upcall.data],
+        })
+    }
+
+    /// What yield-wait and resume share: after a delivery the process runs,
+    /// with an empty queue it waits.
+    pub(crate) fn deliver_or_wait(&mut self) -> Answer {
+        match self.deliver() {
+            Some(delivered) => {
+                self.activity = Activity::Running;
+                delivered
+            }
+            None => {
+                self.activity = Activity::Waiting;
+                Answer::Waiting
+            }
+        }
+    }
+}
+
+/// Refusal 8.
+fn existing<T>(slots: &[T], slot: u32) -> Result<&T, Refusal> {
+    slots.get(slot as usize).ok_or(Refusal::NoSuchSlot)
+}
+
+/// Refusal 9, the sum taken exactly.
+fn check_within(held: Buffer, offset: u32, length: u64) -> Result<(), Refusal> {
+    if u64::from(offset) + length <= u64::from(held.size) {
+        Ok(())
+    } else {
+        Err(Refusal::BeyondHeldSize)
+    }
+}
