@@ -66,11 +66,11 @@ module _ {A : Type 0} {P : A → Type 0} where
   each-snoc none q = more q none
   each-snoc (more p ps) q = more p (each-snoc ps q)
 
-tail-length : (q : List Upcall) → length (tail q) ≤ length q
+pub tail-length : (q : List Upcall) → length (tail q) ≤ length q
 tail-length [] = omega arith
 tail-length (u ∷ q) = omega arith
 
-cancel-length : (k j : ℕ) (q : List Upcall) → length (cancel k j q) ≤ length q
+pub cancel-length : (k j : ℕ) (q : List Upcall) → length (cancel k j q) ≤ length q
 unfolding cancel if_then_else_
 cancel-length k j [] = omega arith
 cancel-length k j (u ∷ q) = go (eqb (u .place) k && eqb (u .slot) j) (cancel-length k j q)

@@ -1,4 +1,6 @@
 // The types that the crates above share, and the limits: each is an associated constant of the kind that it limits, and stands nowhere else.
+ghost use mathlib.Core.Path.{_≡_};
+ghost use Rattle.definition.specs.Limits.{maxProcesses, maxDrivers, maxSlots, maxQueue, imageBytes, memoryBase, flashBase};
 
 // A process's index, and the limits of a process.
 pub struct Process(pub u32);
@@ -58,3 +60,14 @@ pub enum Status {
     Waiting,
     Exited,
 }
+
+// The limits here are those of the definition.
+pub fn limits_tied()
+    ensures { λ _. do ⌜ (← ⟦Process::MAX⟧ .entry) ≡ maxProcesses ⌝ }
+    ensures { λ _. do ⌜ (← ⟦Process::QUEUE⟧ .entry) ≡ maxQueue ⌝ }
+    ensures { λ _. do ⌜ (← ⟦Driver::MAX⟧ .entry) ≡ maxDrivers ⌝ }
+    ensures { λ _. do ⌜ (← ⟦Driver::SLOTS⟧ .entry) ≡ maxSlots ⌝ }
+    ensures { λ _. do ⌜ (← ⟦Image::BYTES⟧ .entry) ≡ imageBytes ⌝ }
+    ensures { λ _. do ⌜ (← ⟦Image::MEMORY⟧ .entry) ≡ memoryBase ⌝ }
+    ensures { λ _. do ⌜ (← ⟦Image::FLASH⟧ .entry) ≡ flashBase ⌝ }
+{}

@@ -1,0 +1,4 @@
+mod SlotLaws
+mod RecordLaws
+mod QueueLaws
+mod CancelLaws
