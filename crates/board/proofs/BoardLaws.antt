@@ -209,7 +209,7 @@ module _ (words : List ℕ) (at : ℕ) (here : at ≡ areasFrom + getD words 0 0
 
   lent-test : goodBoardWords words ≡ (eqb (length words) (2 + areasWords * getD words 0 0 + driverWords * getD words at 0) && goodBoard (boardAt words at))
   unfolding goodBoardWords
-  lent-test = rw (lent-board, processes-count words at, drivers-count words at)
+  lent-test = let e : 1 + areasWords * getD words 0 0 ≡ at = omega arith in rw (lent-board, e)
 
   pub lent-short : (length words ≡ 2 + areasWords * getD words 0 0 + driverWords * getD words at 0 → ⊥) → false ≡ goodBoardWords words
   lent-short h = first-fails _ _ (ne-eqb _ _ h) ∙ sym lent-test

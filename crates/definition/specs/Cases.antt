@@ -1,4 +1,4 @@
--- The cases of document 01, computed: the twelve as one table, the tempting mistakes as another, and the whole case of "Traces".
+-- The cases of document 01, computed: the twelve as one table, the tempting mistakes as another, and the whole case of "Traces". `Rules` has more.
 use Prim.Native.Nat.{ℕ, suc, _+_, _-_}
 use mathlib.Core.Path.{_≡_, refl}
 use mathlib.Core.Bool.{true}
@@ -22,10 +22,10 @@ use Rattle.definition.specs.Table.{Lent, wrongImage, tableStep, start}
 -- ---- the board of the cases
 
 -- a process whose RAM lies ram bytes and whose flash lies rom bytes above process 0's
-pub areas : ℕ → ℕ → Areas
+unfoldable pub areas : ℕ → ℕ → Areas
 areas ram rom = record { ramStart = 0x20000000 + ram; ramEnd = 0x20002000 + ram; grantStart = 0x20001800 + ram; firstBreak = 0x20001000 + ram; flashStart = 0x00040000 + rom; flashEnd = 0x00044000 + rom; permissions = 3 }
 
-pub board : Board
+unfoldable pub board : Board
 unfolding areas
 board = record {
   processes = areas 0 0 ∷ areas 0x2000 0x4000 ∷ [];
@@ -36,29 +36,29 @@ pub board-good : goodBoard board ≡ true
 unfolding board goodBoard goodAreas goodDriver disjoint allOf everyBelow
 board-good = refl
 
-pub begin : World
+unfoldable pub begin : World
 unfolding board fresh cleared
-begin = record { state = fresh board; memory = replicate imageBytes 0; flash = replicate imageBytes 0 }
+begin = record { state = fresh board; memory = replicate imageBytes 0; flash = 1 ∷ 2 ∷ 3 ∷ replicate (imageBytes - 3) 0 }
 
 -- the steps of a case, and the answers to them
 pub record Case : Type 0 where
   pub steps : List Step
   pub gives : List Answer
 
--- whoever opens this opens the whole step
-pub answered : Case → List Answer
+-- unfolding this unfolds the whole step
+unfoldable pub answered : Case → List Answer
 unfolding begin answersTo if_then_else_ allOf everyBelow contains within firstOf slotsOf placeOf isShared hasSlot permits slotAt cleared decode decodeYield decodeMemop decodeExit areaOf accessible holdable accepts clears breakClears decideExchange decideCommand decideBreak decideBreakBy decideKnown decideCall partIn partOf decideAccepted refusal decide cancel commandAnswer afterCommand freed answerOf processAfter claimsAfter writeOf ramOf viewOf store perform latchRefusal latchStep step
 answered x = allAnswers step (x .steps) begin
 
-pub given : Case → List Answer
+unfoldable pub given : Case → List Answer
 given x = x .gives
 
 -- a call of process 0
-pub by0 : ℕ → ℕ → ℕ → ℕ → ℕ → Step
+unfoldable pub by0 : ℕ → ℕ → ℕ → ℕ → ℕ → Step
 by0 class r0 r1 r2 r3 = own 0 (call class r0 r1 r2 r3)
 
 -- Success with 2 u32 to the first exchange of a slot
-pub firstTime : Answer
+unfoldable pub firstTime : Answer
 firstTime = successWith2 null
 
 -- ---- the twelve cases
@@ -98,7 +98,7 @@ twelve-cases = refl
 -- ---- the tempting mistakes, and wrong layers: for each a list of steps whose answers it would get wrong
 
 -- process 0's event for subscribe slot 0 of driver 1, with one argument
-pub posted : ℕ → Step
+unfoldable pub posted : ℕ → Step
 posted x = own 0 (event 1 0 x 0 0)
 
 pub mistakes : List Case
@@ -152,51 +152,12 @@ pub mistakes-refused : map answered mistakes ≡ map given mistakes
 unfolding mistakes by0 posted firstTime answered given
 mistakes-refused = refl
 
--- ---- refusals 3 to 12, each from a state that reaches it, and their order
-
-pub refusals : List Case
-unfolding by0 firstTime posted
-refusals =
-    -- 3, whatever else is wrong
-    record { steps = own 2 (call 9 0 0 0 0) ∷ own 2 (event 7 0 0 0 0) ∷ own 2 resume ∷ own 2 (deposit 7 0 0 []) ∷ own 2 (fetch 7 0 0 0) ∷ []; gives = refused 3 ∷ refused 3 ∷ refused 3 ∷ refused 3 ∷ fetched 3 emptyPart ∷ [] }
-    -- 4, before all that follows
-    ∷ record { steps = by0 6 0 1 0 0 ∷ by0 9 0 0 0 0 ∷ own 0 (event 7 0 0 0 0) ∷ own 0 resume ∷ own 0 (deposit 7 0 0 []) ∷ own 0 (fetch 7 0 0 0) ∷ []; gives = terminated 1 ∷ refused 4 ∷ refused 4 ∷ refused 4 ∷ refused 4 ∷ fetched 4 emptyPart ∷ [] }
-    -- 5 and 6; a waiting process still takes events, and resumes
-    ∷ record {
-      steps = own 0 resume ∷ by0 1 1 0 0x00040010 7 ∷ by0 0 1 0 0 0 ∷ by0 9 0 0 0 0 ∷ own 0 resume ∷ posted 1 ∷ own 0 resume ∷ own 0 resume ∷ [];
-      gives = refused 6 ∷ firstTime ∷ waits ∷ refused 5 ∷ waits ∷ taken ∷ delivered 0x00040010 1 0 0 7 ∷ refused 6 ∷ [];
-    }
-    -- 7, 8 and 9
-    ∷ record {
-      steps = own 0 (event 7 0 0 0 0) ∷ own 0 (event 1 2 0 0 0) ∷ own 0 (deposit 7 0 0 []) ∷ own 0 (deposit 1 1 0 []) ∷ own 0 (deposit 1 0 0 (5 ∷ [])) ∷ own 0 (fetch 7 0 0 0) ∷ own 0 (fetch 0x90000 0 0 0) ∷ own 0 (fetch 1 0 0xFFFFFFFF 1) ∷ latch 7 0 ∷ [];
-      gives = refused 7 ∷ refused 8 ∷ refused 7 ∷ refused 8 ∷ refused 9 ∷ fetched 7 emptyPart ∷ fetched 8 emptyPart ∷ fetched 9 emptyPart ∷ refused 7 ∷ [];
-    }
-    -- 11 stands before 10: a slot with the null upcall, while another slot's upcalls fill the queue
-    ∷ record {
-      steps = own 0 (event 1 1 0 0 0) ∷ by0 1 1 0 0x00040010 7 ∷ (replicate maxQueue (posted 1) ++ (own 0 (event 1 1 0 0 0) ∷ posted 2 ∷ []));
-      gives = refused 11 ∷ firstTime ∷ (replicate maxQueue taken ++ (refused 11 ∷ refused 10 ∷ []));
-    }
-    -- 12
-    ∷ record { steps = latch 1 0 ∷ []; gives = refused 12 ∷ [] }
-    -- set aside, known only after 3 to 5: class 7, yield 2, memop 7 and exit 2
-    ∷ record { steps = by0 7 0 0 0 0 ∷ by0 0 2 0x20000000 0 0 ∷ by0 5 7 0 0 0 ∷ by0 6 2 0 0 0 ∷ []; gives = failure NOSUPPORT ∷ nothing ∷ failure NOSUPPORT ∷ failure NOSUPPORT ∷ [] }
-    -- restart: slots, queue, break and claims are cleared, the latch and the RAM bytes stay, and the process runs
-    ∷ record {
-      steps = by0 3 1 0 0x20000000 2 ∷ own 0 (deposit 1 0 1 (9 ∷ [])) ∷ by0 2 0x90000 1 0 0 ∷ latch 0x90000 5 ∷ by0 5 0 0x20001800 0 0 ∷ by0 6 1 3 0 0 ∷ by0 2 0x90000 3 0 0 ∷ by0 2 0x90000 1 0 0 ∷ by0 2 0x90000 3 0 0 ∷ by0 3 1 0 0 0 ∷ by0 4 1 0 0x20000000 2 ∷ own 0 (fetch 1 0 0 2) ∷ by0 5 1 0 0 0 ∷ [];
-      gives = firstTime ∷ deposited ∷ success ∷ latched ∷ success ∷ restarted 3 ∷ failure RESERVE ∷ success ∷ successWith1 5 ∷ firstTime ∷ firstTime ∷ fetched 0 (record { image = memory; place = 0; bytes = 0 ∷ 9 ∷ [] }) ∷ successWith1 0x20001000 ∷ [];
-    }
-    ∷ []
-
-pub refusals-given : map answered refusals ≡ map given refusals
-unfolding refusals by0 posted firstTime answered given
-refusals-given = refl
-
 -- ---- the whole case of "Traces", from the words of its board on
 
-pub wholeBoard : List ℕ
+unfoldable pub wholeBoard : List ℕ
 wholeBoard = 1 ∷ 0x20000000 ∷ 0x20010000 ∷ 0x20010000 ∷ 0x20000000 ∷ 0x00040000 ∷ 0x00050000 ∷ 0 ∷ 0 ∷ []
 
-pub zeros : Lent
+unfoldable pub zeros : Lent
 zeros = record { table = replicate tableWords 0; memory = replicate imageBytes 0; flash = replicate imageBytes 0 }
 
 pub wholeSteps : List Step

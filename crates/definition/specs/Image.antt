@@ -65,8 +65,9 @@ boardOf words =
 -- the length fits, and the board is good
 unfoldable pub goodBoardWords : List ℕ → Bool
 goodBoardWords words =
-    let b = boardOf words in
-    eqb (length words) (2 + areasWords * length (b .processes) + driverWords * length (b .drivers)) && goodBoard b
+    let processes = getD words 0 0 in
+    let drivers = getD words (1 + areasWords * processes) 0 in
+    eqb (length words) (2 + areasWords * processes + driverWords * drivers) && goodBoard (boardOf words)
 
 -- ---- a process's run of words: status, break, number of queued upcalls, the slots, the queue
 

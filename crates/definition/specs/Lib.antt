@@ -13,6 +13,7 @@ pub mod Words
 pub mod Image
 pub mod Table
 pub mod Cases
+pub mod Rules
 pub mod History
 pub mod Accepted
 pub mod Promises

@@ -173,7 +173,7 @@ perform p o w =
 unfoldable pub latchRefusal : Board → ℕ → ℕ
 latchRefusal b k = firstOf (7 when not (installed b k) ∷ 12 when not (isShared b k) ∷ [])
 
--- the peak is stored as 32-bit two's complement: one below zero is a value
+-- the peak is given as its register word, 32-bit two's complement: one below zero is a value like any other
 unfoldable pub latchStep : ℕ → ℕ → World → Out World
 latchStep driver peak w =
     let s = w .state in
