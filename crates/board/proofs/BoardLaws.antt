@@ -16,6 +16,7 @@ use Rattle.definition.specs.Board.{Board, Areas, noAreas, Driver, noDriver, are
 use Rattle.definition.specs.Words.{tabulate}
 use Rattle.definition.specs.Image.{areasFrom, readAreas, readDriver, boardOf, goodBoardWords}
 use Rattle.theorems.specs.Facts.{clash, both, and, each-holds, all-hold, below-at, at-below, pairwise-at}
+use Rattle.theorems.specs.Places.{first-place}
 use Rattle.theorems.specs.Rows.{tab-length, tab-at}
 use Rattle.words.specs.Loops.{some-fails, first-fails, last-decides}
 use Rattle.board.specs.Boards.{boardAt, Fits, apartFrom, differsFrom, goodProcessAt, goodDriverAt}
@@ -59,12 +60,6 @@ module _ (t : List ℕ) (at : ℕ) where
 -- below k no driver has the number
 abbrev pub NoneBelow : List ℕ → ℕ → ℕ → ℕ → Type 0
 NoneBelow t at number k = (i : ℕ) → i < k → getD t (at + 1 + i * driverWords) 0 ≡ number → ⊥
-
-first-place : (ds : List Driver) (n k : ℕ) → k < length ds → getD ds k noDriver .number ≡ n → ((i : ℕ) → i < k → getD ds i noDriver .number ≡ n → ⊥) → placeOf ds n ≡ k
-unfolding placeOf if_then_else_
-first-place [] n k h e f = absurd (omega arith)
-first-place (d ∷ ds) n zero h e f = rw (eq-eqb (d .number) n e)
-first-place (d ∷ ds) n (suc k) h e f = rw (ne-eqb (d .number) n (f 0 (omega arith))) (ap suc (first-place ds n k (omega arith) e (λ i q. f (suc i) (omega arith))))
 
 no-place : (ds : List Driver) (n : ℕ) → ((i : ℕ) → i < length ds → getD ds i noDriver .number ≡ n → ⊥) → placeOf ds n ≡ length ds
 unfolding placeOf if_then_else_

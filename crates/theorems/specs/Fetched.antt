@@ -5,8 +5,7 @@ use mathlib.Core.Logic.{_≢_}
 use mathlib.Core.Bool.{Bool, true, false}
 use mathlib.Core.List.{List, [], _∷_}
 use native.Mathlib.Omega.{arith}
-use lib.ListN.{length, take, drop, length-drop}
-use lib.Seq.{take-take, drop-drop, length-take-le}
+use lib.ListN.{length, take, drop}
 use lib.Dec.{eqb}
 use borrow.Author.Tests.{ltb-true, ltb-false, eqb-true, eqb-false, not-false}
 use Rattle.definition.specs.Tests.{if_then_else_, within}
@@ -15,9 +14,11 @@ use Rattle.definition.specs.Board.{Areas, readOnly, areasAt, placeOf, driverAt,
 use Rattle.definition.specs.State.{Pair, Process, held, slotAt}
 use Rattle.definition.specs.Answer.{Image, memory, flash, Part, emptyPart, fetched}
 use Rattle.definition.specs.Area.{Area, inRam, inFlash, areaOf, accessible, holdable}
+use Rattle.definition.specs.Words.{part}
 use Rattle.definition.specs.Decide.{fetch, answers, partIn, partOf, decideAccepted, refusal, decide}
 use Rattle.definition.specs.World.{World, own, processAt, ramOf, viewOf, answerOf, perform, step}
 use Rattle.theorems.specs.Facts.{clash, either, passed, within-true}
+use Rattle.theorems.specs.Rows.{part-part, part-length}
 use Rattle.theorems.specs.Slots.{areaBy, held-holdable}
 use Rattle.theorems.specs.Boards.{Placed, placed, few-drivers, few-slots}
 use Rattle.theorems.specs.Good.{Good}
@@ -32,21 +33,6 @@ pub record PartHanded (w : World) (n : ℕ) (x : Part) : Type 0 where
   pub bytes : x .bytes ≡ take n (drop (x .place) (imageIn (x .image) w))
   pub size : length (x .bytes) ≡ n
   pub inside : x .place + n ≤ imageBytes
-
--- ---- a part of a part of a list
-
-module _ {A : Type 0} where
-  part-of-take : (i n size : ℕ) (l : List A) → i + n ≤ size → take n (drop i (take size l)) ≡ take n (drop i l)
-  part-of-take zero n size l h = take-take n size l (omega arith)
-  part-of-take (suc i) n zero l h = absurd (omega arith)
-  part-of-take (suc i) n (suc size) [] h = refl
-  part-of-take (suc i) n (suc size) (x ∷ l) h = part-of-take i n size l (omega arith)
-
-  part-of-part : (k i n size : ℕ) (l : List A) → i + n ≤ size → take n (drop i (take size (drop k l))) ≡ take n (drop (k + i) l)
-  part-of-part k i n size l h = part-of-take i n size (drop k l) h ∙ ap (take n) (drop-drop i k l)
-
-  part-length : (k n : ℕ) (l : List A) → k + n ≤ length l → length (take n (drop k l)) ≡ n
-  part-length k n l h = length-take-le n (drop k l) (omega (arith, length-drop k l))
 
 -- ---- where a held buffer lies
 
@@ -74,6 +60,7 @@ module _ (p : ℕ) (w : World) (g : Good (w .state)) (size : length (w .memory) 
   image-size flash = flash-size
 
   handed : (i : Image) (k n : ℕ) (l : List ℕ) → l ≡ take n (drop k (imageIn i w)) → k + n ≤ imageBytes → PartHanded w n (record { image = i; place = k; bytes = l })
+  unfolding part
   handed i k n l e h = record { bytes = e; size = ap length e ∙ part-length k n (imageIn i w) (omega (arith, image-size i)); inside = h }
 
   abbrev areas : Areas
@@ -83,13 +70,13 @@ module _ (p : ℕ) (w : World) (g : Good (w .state)) (size : length (w .memory) 
   process = processAt (w .state) p
 
   part-handed : (x : Pair) (area : Area) (offset n : ℕ) → Placed areas → Readable areas (process .break) x area → offset + n ≤ x .second → PartHanded w n (partIn (viewOf w p) area (x .first + offset) n)
-  unfolding partIn viewOf ramOf
+  unfolding partIn viewOf ramOf part
   part-handed x inRam offset n o (ramHeld s t) h =
       let end : process .break ≤ areas .ramEnd = omega (arith, g .each p .high, o .grant-high) in
       let base = o .base in
       let place : areas .ramStart - memoryBase + (x .first + offset - areas .ramStart) ≡ x .first + offset - memoryBase = omega arith in
       handed memory (x .first + offset - memoryBase) n _
-      (part-of-part (areas .ramStart - memoryBase) (x .first + offset - areas .ramStart) n (areas .ramEnd - areas .ramStart) (w .memory) (omega arith) ∙ ap (λ k. take n (drop k (w .memory))) place)
+      (part-part (areas .ramStart - memoryBase) (areas .ramEnd - areas .ramStart) (x .first + offset - areas .ramStart) n (w .memory) (omega arith) ∙ ap (λ k. take n (drop k (w .memory))) place)
       (omega (arith, o .top))
   part-handed x inFlash offset n o (flashHeld s t) h = handed flash (x .first + offset - flashBase) n _ refl (omega (arith, o .flash-base, o .flash-top))
 
@@ -107,11 +94,11 @@ module _ (p : ℕ) (w : World) (g : Good (w .state)) (size : length (w .memory) 
     abbrev number : ℕ
     number = refusal (viewOf w p) process (fetch driver j offset n)
 
-    abbrev part : Part
-    part = partOf (viewOf w p) process (held readOnly process place j) offset n
+    abbrev handedBack : Part
+    handedBack = partOf (viewOf w p) process (held readOnly process place j) offset n
 
     -- the process is on the board, the slot exists, and the bytes lie in the buffer that it holds
-    accepted-hands : number ≡ 0 → PartHanded w n part
+    accepted-hands : number ≡ 0 → PartHanded w n handedBack
     unfolding refusal viewOf hasSlot
     accepted-hands e =
         let (on, e1) = passed _ _ _ e in
@@ -126,10 +113,10 @@ module _ (p : ℕ) (w : World) (g : Good (w .state)) (size : length (w .memory) 
         held-handed x offset n (placed b (g .board) p (ltb-true p (length (b .processes)) (not-false _ on))) hold (ltb-false (x .second) (offset + n) (passed _ _ _ e4 .0))
 
     -- a refused fetch answers another number than 0
-    answer-hands : (x : Part) (t : Bool) → eqb number 0 ≡ t → answerOf p (w .state .claims) process (if t then answers (fetched 0 part) else answers (fetched number emptyPart)) ≡ fetched 0 x
+    answer-hands : (x : Part) (t : Bool) → eqb number 0 ≡ t → answerOf p (w .state .claims) process (if t then answers (fetched 0 handedBack) else answers (fetched number emptyPart)) ≡ fetched 0 x
         → PartHanded w n x
     unfolding answerOf if_then_else_
-    answer-hands x true q e = let same : part ≡ x = cc in subst (PartHanded w n) same (accepted-hands (eqb-true number 0 q))
+    answer-hands x true q e = let same : handedBack ≡ x = cc in subst (PartHanded w n) same (accepted-hands (eqb-true number 0 q))
     answer-hands x false q e = absurd (eqb-false number 0 q (cc))
 
 -- so no part is made up: it is what the image holds there
