@@ -1,25 +1,24 @@
 -- Laws of a board that stands in words: its counts and records by place, its bits, and its tests in the order in which code makes them.
-use Prim.Native.Nat.{ℕ, zero, suc, _+_, _-_, _*_, _/_, _%_, _^_, _≤_, _<_}
+use Prim.Native.Nat.{ℕ, zero, suc, _+_, _*_, _/_, _%_, _^_, _≤_, _<_}
 use mathlib.Core.Path.{_≡_, refl, sym, ap, ap₂, _∙_, subst}
 use mathlib.Core.Bool.{Bool, true, false, _&&_, not}
 use mathlib.Core.List.{List, [], _∷_}
 use native.Mathlib.Omega.{arith}
 use native.Mathlib.Nat.{one-mul}
 use lib.Pow.{shl-exact, pow-lt}
-use lib.Dec.{leb, ltb, eqb}
+use lib.Dec.{ltb, eqb}
 use lib.ListN.{length, getD}
 use native.Mathlib.Decide.{ℕ-discrete}
 use borrow.Author.Tests.{le-leb, lt-leb, eq-eqb, ne-eqb, not-true, not-false}
-use Rattle.definition.specs.Tests.{if_then_else_, allOf, everyBelow, pairwiseBelow}
+use Rattle.definition.specs.Tests.{if_then_else_, everyBelow}
 use Rattle.definition.specs.Limits.{maxProcesses, maxDrivers, areasWords, driverWords}
 use Rattle.definition.specs.Board.{Board, Areas, noAreas, Driver, noDriver, areasAt, driverAt, placeOf, ramDisjoint, flashDisjoint, goodAreas, goodDriver, goodBoard}
-use Rattle.definition.specs.Words.{tabulate}
 use Rattle.definition.specs.Image.{areasFrom, readAreas, readDriver, boardOf, goodBoardWords}
-use Rattle.theorems.specs.Facts.{clash, both, and, each-holds, all-hold, below-at, at-below, pairwise-at}
+use Rattle.theorems.specs.Facts.{both, and, each-holds, all-hold, below-at, at-below, pairwise-at}
 use Rattle.theorems.specs.Places.{first-place}
 use Rattle.theorems.specs.Rows.{tab-length, tab-at}
 use Rattle.words.specs.Loops.{some-fails, first-fails, last-decides}
-use Rattle.board.specs.Boards.{boardAt, Fits, apartFrom, differsFrom, goodProcessAt, goodDriverAt}
+use Rattle.board.specs.Boards.{boardAt, apartFrom, differsFrom, goodProcessAt, goodDriverAt}
 
 -- ---- bits
 

@@ -1,10 +1,10 @@
 // Whether a board is good, as document 01 lists it.
 ghost use mathlib.Core.Path.{_≡_};
-ghost use Prim.Native.Nat.{ℕ, _+_, _*_, _≤_, _<_};
-ghost use lib.ListN.{length, getD};
+ghost use Prim.Native.Nat.{_+_, _*_, _≤_, _<_};
+ghost use lib.ListN.{getD};
 ghost use Rattle.definition.specs.Tests.{everyBelow};
 ghost use Rattle.definition.specs.Limits.{maxProcesses, maxDrivers};
-ghost use Rattle.definition.specs.Board.{areasAt, driverAt, disjoint, goodAreas, goodDriver, goodBoard};
+ghost use Rattle.definition.specs.Board.{disjoint, goodAreas, goodDriver, goodBoard};
 ghost use Rattle.definition.specs.Image.{goodBoardWords};
 ghost use Rattle.board.specs.Meaning.{areasOf, driverOf};
 ghost use Rattle.board.specs.Boards.{boardAt, Fits, apartFrom, differsFrom, goodProcessAt, goodDriverAt};

@@ -1,7 +1,7 @@
 // A board's words, read by value.
 ghost use mathlib.Core.Path.{_≡_};
-ghost use Prim.Native.Nat.{ℕ, _+_, _*_, _≤_, _<_, _^_};
-ghost use lib.ListN.{length, getD};
+ghost use Prim.Native.Nat.{_+_, _*_, _≤_, _<_, _^_};
+ghost use lib.ListN.{length};
 ghost use Rattle.definition.specs.Limits.{maxDrivers, areasWords, driverWords};
 ghost use Rattle.definition.specs.Board.{placeOf, permits, slotsOf};
 ghost use Rattle.definition.specs.Image.{areasFrom, readAreas, readDriver};

@@ -1,19 +1,19 @@
 -- Every outcome keeps the claims good: an owner is a permitted process that has not exited, and an unshared driver has none and latch 0.
-use Prim.Native.Nat.{ℕ, zero, suc, _+_, _<_}
+use Prim.Native.Nat.{ℕ, suc, _<_}
 use mathlib.Core.Path.{_≡_, refl, sym, ap, _∙_, subst}
-use mathlib.Core.Bool.{Bool, true, false, _&&_, not}
-use mathlib.Core.List.{List, [], _∷_, map}
+use mathlib.Core.Bool.{Bool, true, false, _&&_}
+use mathlib.Core.List.{List, map}
 use native.Mathlib.Omega.{arith}
 use lib.ListN.{length, getD, set, length-set, length-map, List·getD-map}
 use lib.Dec.{eqb, eqb·zero-suc}
-use borrow.Author.Tests.{eqb-false, not-false}
+use borrow.Author.Tests.{eqb-false}
 use Rattle.definition.specs.Tests.{if_then_else_}
 use Rattle.definition.specs.Board.{Board, Areas, areasAt, isShared, permits}
-use Rattle.definition.specs.State.{Status, running, waiting, isExited, Process, noProcess, Claim, free, State}
+use Rattle.definition.specs.State.{running, waiting, isExited, Process, noProcess, Claim, free}
 use Rattle.definition.specs.Decide.{Action, View, areasOf, Outcome, answers, exchanges, polls, awaits, moves, leaves, queues, writes, commands}
-use Rattle.definition.specs.World.{isEmpty, afterCommand, freed, withOwner, processAfter, claimsAfter, processAt}
+use Rattle.definition.specs.World.{isEmpty, afterCommand, freed, withOwner, processAfter, claimsAfter}
 use Rattle.theorems.specs.Facts.{clash, set-each}
-use Rattle.theorems.specs.Why.{Why, Because, Commanded, Live}
+use Rattle.theorems.specs.Why.{Why, Because}
 
 -- what may own the driver at place k
 pub record Owner (b : Board) (processes : List Process) (k p : ℕ) : Type 0 where

@@ -15,6 +15,7 @@ pub mod Guarded
 pub mod Isolation
 pub mod Told
 pub mod Places
+pub mod Conditions
 pub mod AcceptedExactly
 pub mod Demand3
 pub mod SlotsTold

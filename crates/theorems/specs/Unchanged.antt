@@ -1,23 +1,25 @@
--- A refusal and a Failure change nothing, over states and over tables.
-use Prim.Native.Nat.{ℕ, zero, suc}
-use mathlib.Core.Path.{_≡_, refl, sym, ap, _∙_}
+-- A refusal and a Failure change nothing, over states and over tables; nor does a call that is set aside.
+use Prim.Native.Nat.{ℕ, suc}
+use mathlib.Core.Path.{_≡_, refl, ap, _∙_}
 use mathlib.Core.Bool.{Bool, true, false, _&&_, _||_, not}
 use mathlib.Core.List.{List, [], _∷_}
 use lib.ListN.{getD, set}
 use lib.Seq.{set-getD}
 use lib.Dec.{eqb}
 use borrow.Author.Tests.{eqb-true, not-false}
-use Rattle.definition.specs.Tests.{if_then_else_, firstOf, _when_}
+use Rattle.definition.specs.Tests.{if_then_else_}
 use Rattle.definition.specs.State.{Status, noProcess, Upcall, Claim, free}
-use Rattle.definition.specs.Answer.{Answer, nothing, waits, latched, refused, started, failure, success, successWith1, RESERVE, changesNothing}
-use Rattle.definition.specs.Decide.{Action, View, Outcome, answers, exchanges, polls, awaits, moves, leaves, queues, writes, commands}
+use Rattle.definition.specs.Answer.{Answer, nothing, waits, failure, success, successWith1, RESERVE, changesNothing}
+use Rattle.definition.specs.Call.{aside, decode}
+use Rattle.definition.specs.Decide.{Action, call, Outcome, answers, exchanges, polls, awaits, moves, leaves, queues, writes, commands, decideCall, decideAccepted, decide}
 use Rattle.definition.specs.World.{isFree, owns, withOwner, commandAnswer, afterCommand, deliver, answerOf, processAfter, claimsAfter, writeOf, noWrite, World, Step, own, latch, Out, processAt, viewOf, store, perform, latchStep, step}
 use Rattle.definition.specs.Image.{imageOf, stateOf, wellFormed}
-use Rattle.definition.specs.Table.{Lent, tableStep, start, outOf, worldOf, lentOf, refuseStep, wrongImage}
+use Rattle.definition.specs.Table.{Lent, tableStep, start, worldOf, lentOf}
+use Rattle.definition.specs.Promises.{Unchanged}
 use Rattle.theorems.specs.Facts.{clash, either, passed}
 use Rattle.theorems.specs.Why.{Why, Because, Left, ended, again}
 use Rattle.theorems.specs.Stores.{store-nothing}
-use Rattle.theorems.specs.Good.{decided, decided-why, step-good}
+use Rattle.theorems.specs.Good.{decided, decided-why}
 use Rattle.theorems.specs.ImageBack.{image-again}
 
 deliver-tells : (x : Answer) (q : List Upcall) → changesNothing x ≡ false → changesNothing (deliver x q) ≡ false
@@ -85,20 +87,27 @@ module _ (p : ℕ) (w : World) where
 abbrev Keeps : {W : Type 0} → W → Out W → Type 0
 Keeps w o = changesNothing (o .answer) ≡ true → o .after ≡ w
 
-pub step-unchanged : (s : Step) (w : World) → changesNothing (step s w .answer) ≡ true → step s w .after ≡ w
+step-unchanged : (s : Step) (w : World) → changesNothing (step s w .answer) ≡ true → step s w .after ≡ w
 unfolding step perform latchStep
 step-unchanged (own p a) w e = outcome-unchanged p w a (decided p a w) (decided-why p a w) e
 step-unchanged (latch driver peak) w e = either (Keeps w) _ _ _ (λ _ q. clash q refl) (λ _ q. refl) e
 
+aside-unchanged : (p class r0 r1 r2 r3 : ℕ) (answer : Answer) → decode class r0 r1 r2 r3 ≡ aside answer → (w : World) → step (own p (call class r0 r1 r2 r3)) w .after ≡ w
+unfolding step decide decideAccepted decideCall
+aside-unchanged p class r0 r1 r2 r3 answer e w = either (λ o. perform p o w .after ≡ w) _ _ _ (λ _. rw e (answer-unchanged p w answer)) λ _. answer-unchanged p w _
+
 -- ---- steps over tables: whatever is lent
 
-pub table-unchanged : (s : Step) (x : Lent) → changesNothing (tableStep s x .answer) ≡ true → tableStep s x .after ≡ x
+table-unchanged : (s : Step) (x : Lent) → changesNothing (tableStep s x .answer) ≡ true → tableStep s x .after ≡ x
 unfolding tableStep
 table-unchanged s x e = either (Keeps x) _ _ _ (λ t q.
     let well : wellFormed (x .table) ≡ true = not-false _ (passed _ _ _ (passed _ _ _ (eqb-true _ 0 t) .1) .0) in
     let again : imageOf (stateOf (x .table)) ≡ x .table = image-again (x .table) well in
     ap lentOf (step-unchanged s (worldOf x) q) ∙ (λ i. record { table = again i; memory = x .memory; flash = x .flash })) (λ _ q. refl) e
 
-pub start-unchanged : (words : List ℕ) (x : Lent) → changesNothing (start words x .answer) ≡ true → start words x .after ≡ x
+start-unchanged : (words : List ℕ) (x : Lent) → changesNothing (start words x .answer) ≡ true → start words x .after ≡ x
 unfolding start
 start-unchanged words x e = either (Keeps x) _ _ _ (λ _ q. clash q refl) (λ _ q. refl) e
+
+pub unchanged : Unchanged
+unchanged = record { states = step-unchanged; tables = table-unchanged; starts = start-unchanged; asides = aside-unchanged }

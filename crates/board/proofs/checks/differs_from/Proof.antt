@@ -8,7 +8,6 @@ use Rattle.definition.specs.Tests.{everyBelow}
 use Rattle.definition.specs.Limits.{driverWords}
 use Rattle.definition.specs.Image.{readDriver}
 use Rattle.words.specs.Loops.{below-none, below-stop, below-more, below-done}
-use Rattle.board.specs.Meaning.{driverOf}
 use Rattle.board.specs.Boards.{boardAt, differsFrom}
 use Rattle.board.proofs.BoardLaws.{driver-read, number-same, number-differs}
 use Rattle.board.proofs.checks.differs_from.Statement.{statement}

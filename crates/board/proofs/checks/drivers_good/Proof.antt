@@ -1,13 +1,13 @@
 -- The invariant: every driver below k is good, and has another number than those before it.
-use mathlib.Core.Path.{_≡_, refl, sym, ap, _∙_, subst}
+use mathlib.Core.Path.{_≡_, refl, sym, ap, _∙_}
 use mathlib.Core.Bool.{true, false}
-use Prim.Native.Nat.{ℕ, _-_, _≤_, _<_}
+use Prim.Native.Nat.{_-_, _≤_, _<_}
 use native.Mathlib.Omega.{arith}
 use lib.ListN.{getD}
 use Rattle.definition.specs.Tests.{everyBelow}
-use Rattle.definition.specs.Board.{driverAt, goodDriver}
+use Rattle.definition.specs.Board.{goodDriver}
 use Rattle.words.specs.Loops.{below-none, below-stop, below-more, below-done}
-use Rattle.board.specs.Boards.{boardAt, differsFrom, goodDriverAt}
+use Rattle.board.specs.Boards.{boardAt, goodDriverAt}
 use Rattle.board.proofs.BoardLaws.{driver-read, one-fails, two-fails, two-hold}
 use Rattle.board.proofs.checks.drivers_good.Statement.{statement}
 use Rattle.board.proofs.checks.drivers_good.Tie as tie
