@@ -1,0 +1,9 @@
+mod TestLaws
+mod FormLaws
+mod SlotLaws
+mod QueueLaws
+mod ProcessLaws
+mod ClaimLaws
+mod WholeLaws
+mod StartLaws
+mod FreedLaws

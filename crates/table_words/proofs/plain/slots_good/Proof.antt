@@ -1,0 +1,16 @@
+-- The loop ends: its index grows to its bound.
+use Prim.Native.Nat.{_-_, _≤_}
+use native.Mathlib.Omega.{arith}
+use Rattle.table_words.proofs.plain.slots_good.Statement.{statement}
+use Rattle.table_words.proofs.plain.slots_good.Tie as tie
+
+abbrev Inv-loop : tie.InvT-loop
+Inv-loop t p i₀ i = i ≤ 192
+
+abbrev μ-loop : tie.MeasureT-loop
+μ-loop t p i₀ i = 192 - i
+
+pub slots-good-spec : {M : Type 1} → statement M
+slots-good-spec =
+    tie.close
+    (tie.spec Inv-loop μ-loop (λ c. omega arith) (λ c κs. omega arith) (λ c. omega arith) (λ c. omega arith) (λ c. omega arith) (λ c. omega arith) (λ c. omega arith))

@@ -1,0 +1,18 @@
+-- The loop ends: its index grows to its bound.
+use mathlib.Core.Path.{_≡_}
+use Prim.Native.Nat.{_-_, _≤_}
+use native.Mathlib.Omega.{arith}
+use lib.ListN.{length}
+use Rattle.table_words.proofs.tables.put.Statement.{statement}
+use Rattle.table_words.proofs.tables.put.Tie as tie
+
+abbrev Inv-loop : tie.InvT-loop
+Inv-loop t₀ at row i₀ t i = (i ≤ length row) × (length t ≡ length t₀)
+
+abbrev μ-loop : tie.MeasureT-loop
+μ-loop t₀ at row i₀ t i = length row - i
+
+pub put-spec : {M : Type 1} → statement M
+put-spec =
+    tie.close
+    (tie.spec Inv-loop μ-loop (λ c. omega arith) (λ c. omega arith) (λ c. omega arith) (λ c. omega arith) (λ c κs. omega arith) (λ c. omega arith) (λ c. omega arith) (λ c. omega arith) (λ c. omega arith) (λ c. omega arith))
