@@ -46,14 +46,16 @@ pub fn driver_at(t: &[u32], at: usize, k: usize) -> Installed
     }
 }
 
-// How many slots of a kind a driver has.
-pub fn slots_of(kind: Kind, driver: Installed) -> u32
-    ensures { λ r. ⌜ r ≡ slotsOf (kindOf kind) (driverOf driver) ⌝ }
+// How many slots of a kind the driver at a place has, where D stands at `at`. One word is read: a driver by value would go through memory.
+pub fn slots_at(t: &[u32], at: usize, k: usize, kind: Kind) -> u32
+    requires { ⌜ at + 1 + k * driverWords + driverWords ≤ length (now t) ⌝ }
+    ensures { λ r. ⌜ r ≡ slotsOf (kindOf kind) (readDriver (now (t .entry)) (at + 1 + k * driverWords)) ⌝ }
 {
+    let from = at + 1 + k * Board::DRIVER;
     match kind {
-        Kind::Subscribe => driver.subscribes,
-        Kind::ReadWrite => driver.read_writes,
-        Kind::ReadOnly => driver.read_onlys,
+        Kind::Subscribe => t[from + 1],
+        Kind::ReadWrite => t[from + 2],
+        Kind::ReadOnly => t[from + 3],
     }
 }
 

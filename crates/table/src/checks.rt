@@ -114,8 +114,7 @@ fn good_slot(table: &[u32], areas: Areas, brk: u32, i: usize, pair: Pair) -> boo
         return false;
     }
     let kind = kind_at(i);
-    let driver = reads::driver_at(table, Table::DRIVERS_AT, place);
-    if i % Driver::SLOTS >= reads::slots_of(kind, driver) as usize {
+    if i % Driver::SLOTS >= reads::slots_at(table, Table::DRIVERS_AT, place, kind) as usize {
         return false;
     }
     holdable(kind, areas, brk, pair)
