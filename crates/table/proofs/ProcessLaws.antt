@@ -123,8 +123,8 @@ module _ (b : Board) (a : Areas) (run : List ℕ) where
   -- a cleared process has good slots, and no upcall
   cleared-slots : isCleared a (readProcess run) ≡ true → goodSlots b a (readProcess run) ≡ true
   unfolding goodSlots isCleared
-  cleared-slots e = at-below allSlots _ (λ i h. sym (slot-null b a (readProcess run .break) i (getD (readProcess run .slots) i null) true
-      (sym (below-at allSlots (λ i. isNull (getD (readProcess run .slots) i null)) (each-holds _ e .1 .0) i h)) refl))
+  cleared-slots e = at-below allSlots _ (λ i h. slot-null a (readProcess run .break) (getD (readProcess run .slots) i null) b i
+      (below-at allSlots (λ i. isNull (getD (readProcess run .slots) i null)) (each-holds _ e .1 .0) i h))
 
   cleared-queue : isCleared a (readProcess run) ≡ true → goodQueue b (readProcess run) ≡ true
   unfolding goodQueue isCleared

@@ -1,16 +1,16 @@
--- Laws of slots: what each kind may hold, and what a slot may that the board has, or has not.
-use Prim.Native.Nat.{ℕ, _+_, _*_, _≤_, _<_}
+-- Laws of slots: what each kind may hold, how many slots the board has, and what each slot of a row may hold.
+use Prim.Native.Nat.{ℕ, _+_, _*_, _/_, _%_, _≤_, _<_}
 use mathlib.Core.Path.{_≡_, refl, sym, ap, ap₂, _∙_}
 use mathlib.Core.Bool.{Bool, true, false, _||_}
 use mathlib.Core.List.{List}
 use native.Mathlib.Omega.{arith}
-use lib.Dec.{eqb}
+use lib.Dec.{eqb, ltb}
 use lib.ListN.{length, getD, List·getD-eq-default}
-use borrow.Author.Tests.{eq-eqb, ne-eqb, lt-ltb, le-ltb}
-use Rattle.definition.specs.Tests.{if_then_else_, within}
-use Rattle.definition.specs.Limits.{driverWords}
-use Rattle.definition.specs.Board.{Board, Areas, Driver, Kind, subscribe, readWrite, readOnly, noDriver, driverAt, slotsOf, hasSlot}
-use Rattle.definition.specs.State.{Pair, null, isNull}
+use borrow.Author.Tests.{eq-eqb, ne-eqb, ltb-true, lt-ltb}
+use Rattle.definition.specs.Tests.{if_then_else_, everyBelow, within}
+use Rattle.definition.specs.Limits.{maxDrivers, maxSlots, driverWords}
+use Rattle.definition.specs.Board.{Board, Areas, Kind, subscribe, readWrite, readOnly, noDriver, driverAt, slotsOf, hasSlot}
+use Rattle.definition.specs.State.{Pair, null, isNull, Process}
 use Rattle.definition.specs.Area.{Area, empty, inRam, inFlash, outside, areaOf, accessible, holdable}
 use Rattle.definition.specs.WellFormed.{kindAt, placeAt, numberAt, goodSlot}
 use Rattle.definition.specs.Image.{readDriver, driversFrom, readProcess}
@@ -19,6 +19,8 @@ use Rattle.theorems.specs.Rows.{tab-length, tab-at}
 use Rattle.types.specs.Meaning.{kindOf}
 use Rattle.types.specs.declared.Kind as Code
 use Rattle.board.specs.Boards.{boardAt}
+use Rattle.table.specs.ChecksParts.{allRows, goodRow, goodSlots}
+use Rattle.table.proofs.TestLaws.{both-ways, below-rows}
 
 -- ---- what a slot of each kind may hold
 
@@ -52,11 +54,16 @@ module _ (a : Areas) (break : ℕ) (x : Pair) where
   unfolding holdable areaOf
   read-only-either = read-only-by _ _ _
 
+  -- (0, 0) is good in every slot
   null-holds : (kind : Kind) → isNull x ≡ true → holdable kind a break x ≡ true
   unfolding holdable areaOf accessible if_then_else_
   null-holds subscribe e = rw (both (eqb (x .first) 0) (eqb (x .second) 0) e .0)
   null-holds readWrite e = rw (both (eqb (x .first) 0) (eqb (x .second) 0) e .1)
   null-holds readOnly e = rw (both (eqb (x .first) 0) (eqb (x .second) 0) e .1)
+
+  pub slot-null : (b : Board) (i : ℕ) → isNull x ≡ true → goodSlot b a break i x ≡ true
+  unfolding goodSlot
+  slot-null b i e = either (λ t. t ≡ true) (hasSlot (kindAt i) b (placeAt i) (numberAt i)) (holdable (kindAt i) a break x) (isNull x) (λ _. null-holds (kindAt i) e) (λ _. e)
 
   -- the kind that a match found
   pub kind-found : (r : Bool) (kind found : Code.Kind) → kind ≡ found → r ≡ holdable (kindOf found) a break x → r ≡ holdable (kindOf kind) a break x
@@ -77,52 +84,49 @@ module _ (t : List ℕ) (k : ℕ) where
   pub driver-read : k < getD t driversFrom 0 → driverAt (boardAt t driversFrom) k ≡ readDriver t (driversFrom + 1 + k * driverWords)
   driver-read h = tab-at (getD t driversFrom 0) (λ k. readDriver t (driversFrom + 1 + k * driverWords)) k noDriver h
 
-  -- past the last driver there is no slot
-  slots-past : (kind : Kind) → getD t driversFrom 0 ≤ k → slotsOf kind (driverAt (boardAt t driversFrom) k) ≡ 0
-  slots-past kind h = ap (slotsOf kind) (List·getD-eq-default (boardAt t driversFrom .drivers) noDriver {n = k} (omega (arith, drivers-count t))) ∙ none-has kind
+  module _ (drivers : ℕ) (count : drivers ≡ getD t driversFrom 0) (kind : Kind) where
+    -- past the last driver there is no slot
+    pub slots-past : drivers ≤ k → 0 ≡ slotsOf kind (driverAt (boardAt t driversFrom) k)
+    slots-past h = sym (ap (slotsOf kind) (List·getD-eq-default (boardAt t driversFrom .drivers) noDriver {n = k} (omega (arith, drivers-count t))) ∙ none-has kind)
 
-  -- the number of slots that was read
-  slots-read : (kind kind′ : Kind) (d : Driver) (n : ℕ) → k < getD t driversFrom 0 → kind ≡ kind′ → d ≡ readDriver t (driversFrom + 1 + k * driverWords) → n ≡ slotsOf kind d
-      → slotsOf kind′ (driverAt (boardAt t driversFrom) k) ≡ n
-  slots-read kind kind′ d n h ek ed en = sym (en ∙ ap₂ slotsOf ek (ed ∙ sym (driver-read h)))
+    -- the number of slots that was read
+    pub slots-read : k < drivers → (n : ℕ) → n ≡ slotsOf kind (readDriver t (driversFrom + 1 + k * driverWords)) → n ≡ slotsOf kind (driverAt (boardAt t driversFrom) k)
+    slots-read h n e = e ∙ ap (slotsOf kind) (sym (driver-read (omega arith)))
 
-  module _ (kind : Kind) (j : ℕ) where
-    pub has-none : (n : ℕ) → n ≡ getD t driversFrom 0 → n ≤ k → hasSlot kind (boardAt t driversFrom) k j ≡ false
-    unfolding hasSlot
-    has-none n e h = let past : getD t driversFrom 0 ≤ k = omega arith in let z : slotsOf kind (driverAt (boardAt t driversFrom) k) ≤ j = omega (arith, slots-past kind past) in le-ltb _ _ z
+-- ---- a row of slots: one kind, one place, and numbers from 0 on
 
-    module _ (drivers : ℕ) (count : drivers ≡ getD t driversFrom 0) (on : k < drivers) (kind′ : Kind) (d : Driver) (n : ℕ)
-        (ek : kind′ ≡ kind) (ed : d ≡ readDriver t (driversFrom + 1 + k * driverWords)) (en : n ≡ slotsOf kind′ d) where
-      slots-so : slotsOf kind (driverAt (boardAt t driversFrom) k) ≡ n
-      slots-so = let h : k < getD t driversFrom 0 = omega arith in slots-read kind′ kind d n h ek ed en
+module _ (row j : ℕ) (h : j < maxSlots) where
+  -- no row lies on both sides of where a row begins
+  row-below : (n : ℕ) → ltb (row * maxSlots) (n * maxSlots) ≡ ltb (row * maxSlots + j) (n * maxSlots)
+  row-below n =
+      let i = row * maxSlots in
+      let m = n * maxSlots in
+      both-ways _ _ (λ e. lt-ltb (i + j) m (omega (arith, ltb-true i m e))) (λ e. lt-ltb i m (omega (arith, ltb-true (i + j) m e)))
 
-      pub has-not : n ≤ j → hasSlot kind (boardAt t driversFrom) k j ≡ false
-      unfolding hasSlot
-      has-not h = let z : slotsOf kind (driverAt (boardAt t driversFrom) k) ≤ j = omega (arith, slots-so) in le-ltb _ _ z
+  row-kind : kindAt (row * maxSlots) ≡ kindAt (row * maxSlots + j)
+  row-kind = ap₂ (λ s t. if s then subscribe else if t then readWrite else readOnly) (row-below maxDrivers) (row-below (2 * maxDrivers))
 
-      pub has : j < n → hasSlot kind (boardAt t driversFrom) k j ≡ true
-      unfolding hasSlot
-      has h = let z : j < slotsOf kind (driverAt (boardAt t driversFrom) k) = omega (arith, slots-so) in lt-ltb _ _ z
+  row-place : row % maxDrivers ≡ placeAt (row * maxSlots + j)
+  row-place = let q : row ≡ (row * maxSlots + j) / maxSlots = omega arith in ap (λ r. r % maxDrivers) q
 
--- ---- a slot
+  row-number : j ≡ numberAt (row * maxSlots + j)
+  row-number = omega arith
 
-module _ (b : Board) (a : Areas) (break i : ℕ) (x : Pair) where
-  pub slot-null : (r : Bool) → r ≡ isNull x → r ≡ true → true ≡ goodSlot b a break i x
-  unfolding goodSlot
-  slot-null r e n =
-      let z : isNull x ≡ true = sym e ∙ n in
-      sym (either (λ t. t ≡ true) (hasSlot (kindAt i) b (placeAt i) (numberAt i)) (holdable (kindAt i) a break x) (isNull x) (λ _. null-holds a break x (kindAt i) z) (λ _. z))
+  module _ (b : Board) (a : Areas) (run : List ℕ) (kind : Kind) (count : ℕ) (x : Pair) where
+    -- the test of a slot, by its kind, place and number
+    abbrev test : Kind → ℕ → ℕ → Bool
+    test kind place number = if ltb number (slotsOf kind (driverAt b place)) then holdable kind a (getD run 1 0) x else isNull x
 
-  pub slot-off : (r : Bool) → r ≡ isNull x → r ≡ false → hasSlot (kindAt i) b (placeAt i) (numberAt i) ≡ false → false ≡ goodSlot b a break i x
-  unfolding goodSlot if_then_else_
-  slot-off r e n h = rw h (sym (sym e ∙ n))
+    -- the test of the row's j-th slot, by what was read
+    pub row-turn : (r : Bool) → kind ≡ kindAt (row * maxSlots) → count ≡ slotsOf kind (driverAt b (row % maxDrivers)) → x ≡ getD (readProcess run .slots) (row * maxSlots + j) null
+        → r ≡ (if ltb j count then holdable kind a (getD run 1 0) x else isNull x) → r ≡ goodSlot b a (readProcess run .break) (row * maxSlots + j) (getD (readProcess run .slots) (row * maxSlots + j) null)
+    unfolding goodSlot hasSlot readProcess
+    row-turn r ek ec ex e =
+        e ∙ ap (λ n. if ltb j n then holdable kind a (getD run 1 0) x else isNull x) ec
+        ∙ ap (λ k. test k (row % maxDrivers) j) (ek ∙ row-kind) ∙ ap₂ (test (kindAt (row * maxSlots + j))) row-place row-number
+        ∙ ap (goodSlot b a (getD run 1 0) (row * maxSlots + j)) ex
 
-  pub slot-on : (r : Bool) (kind : Kind) → hasSlot (kindAt i) b (placeAt i) (numberAt i) ≡ true → kind ≡ kindAt i → r ≡ holdable kind a break x → r ≡ goodSlot b a break i x
-  unfolding goodSlot if_then_else_
-  slot-on r kind h k e = rw h (e ∙ ap (λ k. holdable k a break x) k)
-
--- the test of slot i, by what was read
-pub slot-turn : (b : Board) (a : Areas) (run : List ℕ) (i : ℕ) (r : Bool) (x : Pair) → x ≡ getD (readProcess run .slots) i null → r ≡ goodSlot b a (getD run 1 0) i x
-    → r ≡ goodSlot b a (readProcess run .break) i (getD (readProcess run .slots) i null)
-unfolding readProcess
-slot-turn b a run i r x e q = q ∙ ap (goodSlot b a (getD run 1 0) i) e
+-- all slots, row by row
+pub rows-good : (b : Board) (a : Areas) (process : Process) → everyBelow allRows (goodRow b a process) ≡ goodSlots b a process
+unfolding goodRow goodSlots
+rows-good b a process = sym (below-rows allRows maxSlots (λ i. goodSlot b a (process .break) i (getD (process .slots) i null)))

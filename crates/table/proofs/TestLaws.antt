@@ -1,9 +1,11 @@
--- Laws of tests: what the code's answer to one says, and tests beside others that hold.
+-- Laws of tests: what the code's answer to one says, tests beside others that hold, and tests of ranges row by row.
+use Prim.Native.Nat.{ℕ, zero, suc, _+_, _*_}
 use mathlib.Core.Path.{_≡_, refl, sym, _∙_}
-use mathlib.Core.Bool.{Bool, true, false, _||_, not}
+use mathlib.Core.Bool.{Bool, true, false, _&&_, _||_, not, and-true, and-assoc}
 use mathlib.Core.List.{List, [], _∷_}
+use native.Mathlib.Nat.{add-zero, add-suc, zero-mul, suc-mul}
 use borrow.Author.Tests.{not-true, not-false}
-use Rattle.definition.specs.Tests.{allOf}
+use Rattle.definition.specs.Tests.{allOf, everyBelow}
 
 pub passed : (r t : Bool) → r ≡ t → not r ≡ false → t ≡ true
 passed r t e n = sym e ∙ not-false r n
@@ -34,3 +36,15 @@ pub both-ways : (s t : Bool) → (s ≡ true → t ≡ true) → (t ≡ true →
 both-ways true t f g = sym (f refl)
 both-ways false true f g = g refl
 both-ways false false f g = refl
+
+-- a test of every number below a + m is one of those below a, and of the m from a on
+below-sum : (a m : ℕ) (f : ℕ → Bool) → everyBelow (a + m) f ≡ (everyBelow a f && everyBelow m (λ j. f (a + j)))
+unfolding everyBelow
+below-sum a zero f = rw (add-zero, and-true (everyBelow a f))
+below-sum a (suc m) f = rw (add-suc, below-sum a m f) (and-assoc (everyBelow a f) (everyBelow m (λ j. f (a + j))) (f (a + m)))
+
+-- a test of every number below a product goes row by row
+pub below-rows : (n m : ℕ) (f : ℕ → Bool) → everyBelow (n * m) f ≡ everyBelow n (λ r. everyBelow m (λ j. f (r * m + j)))
+unfolding everyBelow
+below-rows zero m f = rw (zero-mul m)
+below-rows (suc n) m f = rw (suc-mul n m, below-sum (n * m) m f, below-rows n m f)

@@ -2,18 +2,18 @@
 ghost use mathlib.Core.Path.{_≡_};
 ghost use Prim.Native.Nat.{_+_, _≤_, _<_};
 ghost use lib.ListN.{length, getD};
-ghost use Rattle.definition.specs.Tests.{everyBelow, within};
+ghost use Rattle.definition.specs.Tests.{if_then_else_, everyBelow, within};
 ghost use Rattle.definition.specs.Limits.{maxDrivers};
-ghost use Rattle.definition.specs.Board.{subscribe, readWrite};
+ghost use Rattle.definition.specs.Board.{subscribe, readWrite, driverAt, slotsOf};
 ghost use Rattle.definition.specs.State.{isNull, isExited};
 ghost use Rattle.definition.specs.Area.{holdable};
-ghost use Rattle.definition.specs.WellFormed.{kindAt, goodSlot, goodUpcall, isCleared, goodProcess, mayOwn};
+ghost use Rattle.definition.specs.WellFormed.{kindAt, goodUpcall, isCleared, goodProcess, mayOwn};
 ghost use Rattle.definition.specs.Image.{wordsInUpcall, readUpcall, runWords, readProcess, driversFrom, stateOf, wellFormed};
 ghost use Rattle.theorems.specs.Form.{TableForm};
 ghost use Rattle.types.specs.Meaning.{kindOf, pairOf};
 ghost use Rattle.board.specs.Meaning.{areasOf};
 ghost use Rattle.board.specs.Boards.{boardAt};
-ghost use Rattle.table.specs.ChecksParts.{FormedRun, GoodBoard, goodSlots, goodQueue, goodProcessOf, goodClaimOf};
+ghost use Rattle.table.specs.ChecksParts.{FormedRun, GoodBoard, allRows, goodRow, goodSlots, goodQueue, goodProcessOf, goodClaimOf};
 use super::Table;
 use super::form;
 use board::Areas;
@@ -101,23 +101,45 @@ fn is_null(pair: Pair) -> bool
     pair.1 == 0
 }
 
-// The i-th slot of a process may hold a pair. Any slot may hold (0, 0), and nothing else where the board has no such slot.
-fn good_slot(table: &[u32], areas: Areas, brk: u32, i: usize, pair: Pair) -> bool
-    requires { ⌜ TableForm (now table) ⌝ }
-    ensures { λ r. ⌜ r ≡ goodSlot (boardAt (now (table .entry)) driversFrom) (areasOf areas) brk i (pairOf pair) ⌝ }
+// A slot of a kind may hold a pair: only (0, 0) where the board has no such slot.
+fn good_slot(kind: Kind, areas: Areas, brk: u32, has: bool, pair: Pair) -> bool
+    ensures { λ r. ⌜ r ≡ (if has then holdable (kindOf kind) (areasOf areas) brk (pairOf pair) else isNull (pairOf pair)) ⌝ }
 {
-    if is_null(pair) {
-        return true;
+    if has {
+        return holdable(kind, areas, brk, pair);
     }
-    let place = i / Driver::SLOTS % Driver::MAX;
+    is_null(pair)
+}
+
+// How many slots of a kind the driver at a place has: none past the last driver.
+fn slots_in(table: &[u32], place: usize, kind: Kind) -> usize
+    requires { ⌜ TableForm (now table) × (place < maxDrivers) ⌝ }
+    ensures { λ r. ⌜ r ≡ slotsOf (kindOf kind) (driverAt (boardAt (now (table .entry)) driversFrom) place) ⌝ }
+{
     if place >= words::word(table, Table::DRIVERS_AT) {
-        return false;
+        return 0;
     }
-    let kind = kind_at(i);
-    if i % Driver::SLOTS >= reads::slots_at(table, Table::DRIVERS_AT, place, kind) as usize {
-        return false;
+    reads::slots_at(table, Table::DRIVERS_AT, place, kind) as usize
+}
+
+// Each slot of a row, which is the slots of one kind for one driver, holds what it may. The kind, and how many the driver has, are read once.
+fn row_good(table: &[u32], areas: Areas, run: &[u32], row: usize) -> bool
+    requires { ⌜ TableForm (now table) × (length (now run) ≡ runWords) × (row < allRows) ⌝ }
+    ensures { λ r. ⌜ r ≡ goodRow (boardAt (now (table .entry)) driversFrom) (areasOf areas) (readProcess (now (run .entry))) row ⌝ }
+{
+    let brk = run[1];
+    let from = row * Driver::SLOTS;
+    let kind = kind_at(from);
+    let count = slots_in(table, row % Driver::MAX, kind);
+    let mut j = 0;
+    while j < Driver::SLOTS {
+        let pair = slots::held(run, from + j);
+        if !good_slot(kind, areas, brk, j < count, pair) {
+            return false;
+        }
+        j += 1;
     }
-    holdable(kind, areas, brk, pair)
+    true
 }
 
 // Each slot of a process holds what it may.
@@ -125,14 +147,12 @@ fn slots_good(table: &[u32], areas: Areas, run: &[u32]) -> bool
     requires { ⌜ TableForm (now table) × (length (now run) ≡ runWords) ⌝ }
     ensures { λ r. ⌜ r ≡ goodSlots (boardAt (now (table .entry)) driversFrom) (areasOf areas) (readProcess (now (run .entry))) ⌝ }
 {
-    let brk = run[1];
-    let mut i = 0;
-    while i < Run::SLOTS {
-        let pair = slots::held(run, i);
-        if !good_slot(table, areas, brk, i, pair) {
+    let mut row = 0;
+    while row < 3 * Driver::MAX {
+        if !row_good(table, areas, run, row) {
             return false;
         }
-        i += 1;
+        row += 1;
     }
     true
 }

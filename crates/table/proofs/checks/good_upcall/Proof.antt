@@ -39,7 +39,7 @@ slot-at-requires c κs =
     let d = e2 .before .before .before in
     let w = d .before .before in
     let s = w .before .before .before .before .before in
-    (omega arith, omega (arith, few-subscribes (s .args .table .now) _ _ _ (s .pre .0 .board) (w .word .ensures) (d .before .if1 .left) (d .driver-at .ensures)))
+    (omega arith, omega (arith, few-subscribes (s .args .table .now) _ _ _ (w .word .ensures) (d .before .if1 .left) (d .driver-at .ensures) (s .pre .0 .board)))
 
 held-requires : tie.Need-held-requires
 held-requires c κs =
@@ -48,7 +48,7 @@ held-requires c κs =
     let w = d .before .before in
     let s = w .before .before .before .before .before in
     let few : e2 .before .before .before .before .before .before .before .upcall-at .result .slot < maxSlots =
-    omega (arith, few-subscribes (s .args .table .now) _ _ _ (s .pre .0 .board) (w .word .ensures) (d .before .if1 .left) (d .driver-at .ensures)) in
+    omega (arith, few-subscribes (s .args .table .now) _ _ _ (w .word .ensures) (d .before .if1 .left) (d .driver-at .ensures) (s .pre .0 .board)) in
     (s .pre .1, slot-bound _ _ _ (c .slot-at .ensures) (omega arith) few)
 
 returns-4 : tie.Need-returns-4
