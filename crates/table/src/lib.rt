@@ -3,6 +3,7 @@
 pub mod checks;
 pub mod claims;
 mod form;
+pub mod runs;
 pub mod starts;
 
 use board::Board;

@@ -1,0 +1,29 @@
+// One process's run as a part of the table: what is done to the part is done to that process, and to nothing else.
+ghost use Prim.Native.Nat.{_<_};
+ghost use lib.ListN.{getD};
+ghost use Rattle.definition.specs.State.{withStatus};
+ghost use Rattle.definition.specs.World.{processAt};
+ghost use Rattle.types.specs.Meaning.{statusOf};
+ghost use Rattle.table.specs.Tables.{Holds, Turns, Tells, withProcess};
+use super::Table;
+use process::Run;
+use process::record;
+use types::Status;
+
+pub fn set_status(table: &mut [u32], p: usize, status: Status)
+    requires { ⌜ Holds (now table) × (p < getD (now table) 0 0) ⌝ }
+    ensures { λ _. ⌜ Turns (λ s. withProcess p (withStatus (statusOf status) (processAt s p)) s) (now (table .entry)) (now (table .exit)) ⌝ }
+{
+    let from = Table::RUNS_AT + p * Run::WORDS;
+    let to = from + Run::WORDS;
+    record::set_status(&mut table[from..to], status);
+}
+
+pub fn brk(table: &[u32], p: usize) -> u32
+    requires { ⌜ Holds (now table) × (p < getD (now table) 0 0) ⌝ }
+    ensures { λ r. ⌜ Tells (λ s. processAt s p .break) (now (table .entry)) r ⌝ }
+{
+    let from = Table::RUNS_AT + p * Run::WORDS;
+    let to = from + Run::WORDS;
+    record::brk(&table[from..to])
+}
