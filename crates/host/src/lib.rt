@@ -7,5 +7,5 @@ ghost use Rattle.definition.specs.Image.{wellFormed};
 pub extern "C" fn mk_table_well_formed(table: &[u32]) -> bool
     ensures { λ r. ⌜ r ≡ wellFormed (now (table .entry)) ⌝ }
 {
-    table::checks::well_formed(table)
+    table_check::checks::well_formed(table)
 }

@@ -1,8 +1,6 @@
-// The whole table: where its parts stand, whether a lent table is well formed, start, claims, and a process's run as a part of it.
+// The whole table: where its parts stand, start, claims, and a process's run as a part of it.
 
-pub mod checks;
 pub mod claims;
-mod form;
 pub mod runs;
 pub mod starts;
 

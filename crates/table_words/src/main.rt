@@ -15,7 +15,7 @@ struct Counts {
 
 // Judges a table by both checks, and counts.
 fn judge(t: &[u32], c: Counts) -> Counts {
-    let proved = table::checks::well_formed(t);
+    let proved = table_check::checks::well_formed(t);
     let second = plain::well_formed(t);
     let mut n = c;
     if proved != second {
