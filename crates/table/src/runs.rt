@@ -8,22 +8,23 @@ ghost use Rattle.table.specs.Tables.{Holds, Turns, Tells, withProcess};
 use super::Table;
 use process::Run;
 use process::record;
+use types::Process;
 use types::Status;
 
-pub fn set_status(table: &mut [u32], p: usize, status: Status)
-    requires { ⌜ Holds (now table) × (p < getD (now table) 0 0) ⌝ }
-    ensures { λ _. ⌜ Turns (λ s. withProcess p (withStatus (statusOf status) (processAt s p)) s) (now (table .entry)) (now (table .exit)) ⌝ }
+pub fn set_status(table: &mut [u32], process: Process, status: Status)
+    requires { ⌜ Holds (now table) × (process .0 < getD (now table) 0 0) ⌝ }
+    ensures { λ _. ⌜ Turns (λ s. withProcess (process .0) (withStatus (statusOf status) (processAt s (process .0))) s) (now (table .entry)) (now (table .exit)) ⌝ }
 {
-    let from = Table::RUNS_AT + p * Run::WORDS;
+    let from = Table::RUNS_AT + process.0 as usize * Run::WORDS;
     let to = from + Run::WORDS;
     record::set_status(&mut table[from..to], status);
 }
 
-pub fn brk(table: &[u32], p: usize) -> u32
-    requires { ⌜ Holds (now table) × (p < getD (now table) 0 0) ⌝ }
-    ensures { λ r. ⌜ Tells (λ s. processAt s p .break) (now (table .entry)) r ⌝ }
+pub fn brk(table: &[u32], process: Process) -> u32
+    requires { ⌜ Holds (now table) × (process .0 < getD (now table) 0 0) ⌝ }
+    ensures { λ r. ⌜ Tells (λ s. processAt s (process .0) .break) (now (table .entry)) r ⌝ }
 {
-    let from = Table::RUNS_AT + p * Run::WORDS;
+    let from = Table::RUNS_AT + process.0 as usize * Run::WORDS;
     let to = from + Run::WORDS;
     record::brk(&table[from..to])
 }
