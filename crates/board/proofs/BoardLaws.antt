@@ -1,4 +1,4 @@
--- Laws of a board that stands in words: its counts and records by place, its bits, and its tests in the order in which code makes them.
+-- Laws of a board that stands in words: its bits, a driver's place, and its tests in the order in which code makes them.
 use Prim.Native.Nat.{ℕ, zero, suc, _+_, _*_, _/_, _%_, _^_, _≤_, _<_}
 use mathlib.Core.Path.{_≡_, refl, sym, ap, ap₂, _∙_, subst}
 use mathlib.Core.Bool.{Bool, true, false, _&&_, not}
@@ -12,13 +12,13 @@ use native.Mathlib.Decide.{ℕ-discrete}
 use borrow.Author.Tests.{le-leb, lt-leb, eq-eqb, ne-eqb, not-true, not-false}
 use Rattle.definition.specs.Tests.{if_then_else_, everyBelow}
 use Rattle.definition.specs.Limits.{maxProcesses, maxDrivers, areasWords, driverWords}
-use Rattle.definition.specs.Board.{Board, Areas, noAreas, Driver, noDriver, areasAt, driverAt, placeOf, ramDisjoint, flashDisjoint, goodAreas, goodDriver, goodBoard}
-use Rattle.definition.specs.Image.{areasFrom, readAreas, readDriver, boardOf, goodBoardWords}
+use Rattle.definition.specs.Board.{Board, Areas, Driver, noDriver, areasAt, driverAt, placeOf, ramDisjoint, flashDisjoint, goodAreas, goodDriver, goodBoard}
+use Rattle.definition.specs.Image.{areasFrom, boardOf, goodBoardWords}
 use Rattle.theorems.specs.Facts.{both, and, each-holds, all-hold, below-at, at-below, pairwise-at}
 use Rattle.theorems.specs.Places.{first-place}
-use Rattle.theorems.specs.Rows.{tab-length, tab-at}
 use Rattle.words.specs.Loops.{some-fails, first-fails, last-decides}
 use Rattle.board.specs.Boards.{boardAt, apartFrom, differsFrom, goodProcessAt, goodDriverAt}
+use Rattle.board.specs.Reads.{processes-count, drivers-count, driver-read}
 
 -- ---- bits
 
@@ -38,21 +38,6 @@ bit-test mask k n e = ap (λ (m : ℕ). eqb (mask / m % 2) 1) e
 
 pub below-bit : (mask k n : ℕ) → n ≡ 2 ^ k → ltb mask n ≡ ltb mask (2 ^ k)
 below-bit mask k n e = ap (ltb mask) e
-
--- ---- counts and records
-
-module _ (t : List ℕ) (at : ℕ) where
-  pub processes-count : length (boardAt t at .processes) ≡ getD t 0 0
-  processes-count = tab-length (getD t 0 0) (λ p. readAreas t (areasFrom + p * areasWords))
-
-  pub drivers-count : length (boardAt t at .drivers) ≡ getD t at 0
-  drivers-count = tab-length (getD t at 0) (λ k. readDriver t (at + 1 + k * driverWords))
-
-  pub areas-read : (p : ℕ) → p < getD t 0 0 → areasAt (boardAt t at) p ≡ readAreas t (areasFrom + p * areasWords)
-  areas-read p h = tab-at (getD t 0 0) (λ p. readAreas t (areasFrom + p * areasWords)) p noAreas h
-
-  pub driver-read : (k : ℕ) → k < getD t at 0 → driverAt (boardAt t at) k ≡ readDriver t (at + 1 + k * driverWords)
-  driver-read k h = tab-at (getD t at 0) (λ k. readDriver t (at + 1 + k * driverWords)) k noDriver h
 
 -- ---- a driver's place, found from the front
 

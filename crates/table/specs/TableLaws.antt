@@ -4,7 +4,7 @@ use mathlib.Core.Path.{_≡_, refl, sym, ap, _∙_, subst}
 use mathlib.Core.Bool.{Bool, true, false, _&&_, _||_}
 use mathlib.Core.List.{List, map}
 use lib.ListN.{length, getD, length-map, List·getD-map}
-use lib.Dec.{eqb, eqb·zero-suc}
+use lib.Dec.{eqb}
 use borrow.Author.Tests.{eqb-true, eq-eqb}
 use Rattle.definition.specs.Tests.{if_then_else_}
 use Rattle.definition.specs.Board.{isShared}
@@ -13,6 +13,7 @@ use Rattle.definition.specs.World.{freed, withOwner}
 use Rattle.definition.specs.WellFormed.{mayOwn, goodClaim, goodState}
 use Rattle.definition.specs.Image.{imageOf, stateOf, wellFormed}
 use Rattle.theorems.specs.Facts.{either, both, and, each-holds, all-hold, below-at, at-below}
+use Rattle.theorems.specs.Claims.{freed-free}
 use Rattle.theorems.specs.ImageBack.{image-length, processes-count, drivers-count, shaped, image-again, well-formed-good}
 use Rattle.table.specs.Tables.{Holds, Turns, Tells, withClaims}
 
@@ -45,10 +46,6 @@ module _ (t : List ℕ) (w : wellFormed t ≡ true) where
   told f r d = d (stateOf t) (well-formed-good t w) (sym (image-again t w))
 
 -- ---- freeing the claims of a process leaves a good state good
-
-freed-free : (p : ℕ) → freed p free ≡ free
-unfolding freed if_then_else_
-freed-free p = rw (eqb·zero-suc p)
 
 module _ (s : State) (k : ℕ) (c : Claim) (g : goodClaim s k c ≡ true) where
   released-good : goodClaim s k (withOwner 0 c) ≡ true

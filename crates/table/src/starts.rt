@@ -12,6 +12,7 @@ use board::Board;
 use board::checks;
 use board::reads;
 use process::Run;
+use types::Process;
 
 // What start answers: accepted, or refused with a number.
 pub enum Started {
@@ -36,11 +37,11 @@ fn put_breaks(table: &mut [u32], board: &[u32])
     requires { ⌜ (now table ≡ imageOf (runningFirst 0 (boardOf (now board)))) × GoodWords (now board) ⌝ }
     ensures { λ _. ⌜ now (table .exit) ≡ imageOf (fresh (boardOf (now (board .entry)))) ⌝ }
 {
-    let processes = words::word(board, 0);
+    let processes = board[0];
     let mut p = 0;
     while p < processes {
-        let areas = reads::areas_at(board, p);
-        table[Table::RUNS_AT + p * Run::WORDS + 1] = areas.first_break;
+        let areas = reads::areas_at(board, Process(p));
+        table[Table::RUNS_AT + p as usize * Run::WORDS + 1] = areas.first_break;
         p += 1;
     }
 }

@@ -19,7 +19,7 @@ use Rattle.words.specs.Loops.{some-fails, all-next, all-last}
 use Rattle.table_check.specs.Parts.{goodClaimOf}
 use Rattle.table_check.proofs.TestLaws.{passed, failed}
 use Rattle.table_check.proofs.FormLaws.{runFrom, lent-run}
-use Rattle.table_check.proofs.SlotLaws.{driver-read}
+use Rattle.board.specs.Reads.{driver-read}
 
 -- ---- an owner
 
@@ -61,7 +61,7 @@ module _ (t : List ℕ) (k owner : ℕ) (d : Driver) (on : k < getD t driversFro
   claim-so : claimTest (not (eqb (d .shared) 0)) (readClaim t (claimsFrom + k * wordsInClaim)) ≡ goodClaimOf t k
   unfolding goodClaimOf goodClaim isShared stateOf
   claim-so =
-      ap₂ claimTest (ap (λ (x : Driver). not (eqb (x .shared) 0)) (ed ∙ sym (driver-read t k on)))
+      ap₂ claimTest (ap (λ (x : Driver). not (eqb (x .shared) 0)) (ed ∙ sym (driver-read t driversFrom k on)))
       (sym (tab-at (getD t driversFrom 0) (λ k. readClaim t (claimsFrom + k * wordsInClaim)) k free on))
 
   module _ (unshared : d .shared ≡ 0) where

@@ -5,7 +5,7 @@ use mathlib.Core.Bool.{Bool, true, false, _||_}
 use mathlib.Core.List.{List}
 use native.Mathlib.Omega.{arith}
 use lib.Dec.{eqb, ltb}
-use lib.ListN.{length, getD, List·getD-eq-default}
+use lib.ListN.{getD, List·getD-eq-default}
 use borrow.Author.Tests.{eq-eqb, ne-eqb, ltb-true, lt-ltb}
 use Rattle.definition.specs.Tests.{if_then_else_, everyBelow, within}
 use Rattle.definition.specs.Limits.{maxDrivers, maxSlots, driverWords}
@@ -15,10 +15,10 @@ use Rattle.definition.specs.Area.{Area, empty, inRam, inFlash, outside, areaOf,
 use Rattle.definition.specs.WellFormed.{kindAt, placeAt, numberAt, goodSlot}
 use Rattle.definition.specs.Image.{readDriver, driversFrom, readProcess}
 use Rattle.theorems.specs.Facts.{both, either}
-use Rattle.theorems.specs.Rows.{tab-length, tab-at}
 use Rattle.types.specs.Meaning.{kindOf}
 use Rattle.types.specs.declared.Kind as Code
 use Rattle.board.specs.Boards.{boardAt}
+use Rattle.board.specs.Reads.{drivers-count, driver-read}
 use Rattle.table_check.specs.Parts.{allRows, goodRow, goodSlots}
 use Rattle.table_check.proofs.TestLaws.{both-ways, below-rows}
 
@@ -77,21 +77,15 @@ none-has subscribe = refl
 none-has readWrite = refl
 none-has readOnly = refl
 
-pub drivers-count : (t : List ℕ) → length (boardAt t driversFrom .drivers) ≡ getD t driversFrom 0
-drivers-count t = tab-length (getD t driversFrom 0) (λ k. readDriver t (driversFrom + 1 + k * driverWords))
-
 module _ (t : List ℕ) (k : ℕ) where
-  pub driver-read : k < getD t driversFrom 0 → driverAt (boardAt t driversFrom) k ≡ readDriver t (driversFrom + 1 + k * driverWords)
-  driver-read h = tab-at (getD t driversFrom 0) (λ k. readDriver t (driversFrom + 1 + k * driverWords)) k noDriver h
-
   module _ (drivers : ℕ) (count : drivers ≡ getD t driversFrom 0) (kind : Kind) where
     -- past the last driver there is no slot
     pub slots-past : drivers ≤ k → 0 ≡ slotsOf kind (driverAt (boardAt t driversFrom) k)
-    slots-past h = sym (ap (slotsOf kind) (List·getD-eq-default (boardAt t driversFrom .drivers) noDriver {n = k} (omega (arith, drivers-count t))) ∙ none-has kind)
+    slots-past h = sym (ap (slotsOf kind) (List·getD-eq-default (boardAt t driversFrom .drivers) noDriver {n = k} (omega (arith, drivers-count t driversFrom))) ∙ none-has kind)
 
     -- the number of slots that was read
     pub slots-read : k < drivers → (n : ℕ) → n ≡ slotsOf kind (readDriver t (driversFrom + 1 + k * driverWords)) → n ≡ slotsOf kind (driverAt (boardAt t driversFrom) k)
-    slots-read h n e = e ∙ ap (slotsOf kind) (sym (driver-read (omega arith)))
+    slots-read h n e = e ∙ ap (slotsOf kind) (sym (driver-read t driversFrom k (omega arith)))
 
 -- ---- a row of slots: one kind, one place, and numbers from 0 on
 

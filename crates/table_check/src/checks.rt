@@ -25,6 +25,7 @@ use table::Table;
 use types::Driver;
 use types::Kind;
 use types::Pair;
+use types::Process;
 use types::Status;
 
 // ---- slots
@@ -254,11 +255,11 @@ fn processes_good(table: &[u32]) -> bool
     requires { ⌜ GoodBoard (now table) ⌝ }
     ensures { λ r. ⌜ r ≡ everyBelow (getD (now (table .entry)) 0 0) (goodProcessOf (now (table .entry))) ⌝ }
 {
-    let n = words::word(table, 0);
+    let n = table[0];
     let mut p = 0;
     while p < n {
-        let areas = reads::areas_at(table, p);
-        let from = Table::RUNS_AT + p * Run::WORDS;
+        let areas = reads::areas_at(table, Process(p));
+        let from = Table::RUNS_AT + p as usize * Run::WORDS;
         let to = from + Run::WORDS;
         if !good_process(table, areas, &table[from..to]) {
             return false;
@@ -270,19 +271,19 @@ fn processes_good(table: &[u32]) -> bool
 
 // ---- claims
 
-// Process p, which has not exited, may own the driver at place k.
-fn may_own(table: &[u32], k: usize, p: usize) -> bool
+// A process that has not exited may own the driver at place k.
+fn may_own(table: &[u32], k: usize, process: Process) -> bool
     requires { ⌜ TableForm (now table) × (k < maxDrivers) ⌝ }
-    ensures { λ r. ⌜ r ≡ mayOwn (stateOf (now (table .entry))) k p ⌝ }
+    ensures { λ r. ⌜ r ≡ mayOwn (stateOf (now (table .entry))) k (process .0) ⌝ }
 {
-    if p >= words::word(table, 0) {
+    if process.0 >= table[0] {
         return false;
     }
-    let areas = reads::areas_at(table, p);
+    let areas = reads::areas_at(table, process);
     if !reads::permitted(areas, k) {
         return false;
     }
-    let from = Table::RUNS_AT + p * Run::WORDS;
+    let from = Table::RUNS_AT + process.0 as usize * Run::WORDS;
     let to = from + Run::WORDS;
     !has_exited(&table[from..to])
 }
@@ -294,7 +295,7 @@ fn good_claim(table: &[u32], k: usize) -> bool
     ensures { λ r. ⌜ r ≡ goodClaimOf (now (table .entry)) k ⌝ }
 {
     let at = Table::CLAIMS_AT + k * Table::CLAIM;
-    let owner = words::word(table, at);
+    let owner = table[at];
     let driver = reads::driver_at(table, Table::DRIVERS_AT, k);
     if driver.shared == 0 {
         if owner != 0 {
@@ -305,7 +306,7 @@ fn good_claim(table: &[u32], k: usize) -> bool
     if owner == 0 {
         return true;
     }
-    may_own(table, k, owner - 1)
+    may_own(table, k, Process(owner - 1))
 }
 
 // Each claim is good.
