@@ -3,6 +3,7 @@ pub mod Limits
 pub mod Board
 pub mod State
 pub mod Answer
+pub mod Signed
 pub mod Call
 pub mod Area
 pub mod Decide

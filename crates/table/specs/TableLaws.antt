@@ -14,7 +14,7 @@ use Rattle.definition.specs.WellFormed.{mayOwn, goodClaim, goodState}
 use Rattle.definition.specs.Image.{imageOf, stateOf, wellFormed}
 use Rattle.theorems.specs.Facts.{either, both, and, each-holds, all-hold, below-at, at-below}
 use Rattle.theorems.specs.Claims.{freed-free}
-use Rattle.theorems.specs.ImageBack.{image-length, processes-count, drivers-count, shaped, image-again, well-formed-good}
+use Rattle.theorems.specs.ImageBack.{image-length, processes-count, drivers-count, shaped, good-back, image-again, well-formed-good}
 use Rattle.table.specs.Tables.{Holds, Turns, Tells, withClaims}
 
 -- the words of a good state are held
@@ -37,13 +37,22 @@ well-formed-holds t e = holds-of t (stateOf t) (well-formed-good t e) (sym (imag
 pub holds-after : (f : State → State) (t after : List ℕ) → ((s : State) → goodState s ≡ true → goodState (f s) ≡ true) → (x : Holds t) → Turns f t after → Holds after
 holds-after f t after keeps x d = holds-of after (f (x .state)) (keeps (x .state) (x .good)) (d (x .state) (x .good) (x .words))
 
--- of a well-formed table: what is done and told is so of the state that it reads as
-module _ (t : List ℕ) (w : wellFormed t ≡ true) where
+-- a held table reads as one state: what is done and told is so of it
+module _ (t : List ℕ) (x : Holds t) where
+  reads-as : stateOf t ≡ x .state
+  reads-as = ap stateOf (x .words) ∙ good-back (x .state) (x .good)
+
+  pub read-good : goodState (stateOf t) ≡ true
+  read-good = ap goodState reads-as ∙ x .good
+
+  pub read-again : t ≡ imageOf (stateOf t)
+  read-again = x .words ∙ ap imageOf (sym reads-as)
+
   pub turned : (f : State → State) (after : List ℕ) → Turns f t after → after ≡ imageOf (f (stateOf t))
-  turned f after d = d (stateOf t) (well-formed-good t w) (sym (image-again t w))
+  turned f after d = d (stateOf t) read-good read-again
 
   pub told : {A : Type 0} (f : State → A) (r : A) → Tells f t r → r ≡ f (stateOf t)
-  told f r d = d (stateOf t) (well-formed-good t w) (sym (image-again t w))
+  told f r d = d (stateOf t) read-good read-again
 
 -- ---- freeing the claims of a process leaves a good state good
 
