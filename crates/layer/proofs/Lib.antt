@@ -1,0 +1,14 @@
+mod BreakLaws
+mod BufferLaws
+mod CommandLaws
+mod DepositLaws
+mod EventLaws
+mod ExchangeLaws
+mod FetchLaws
+mod KnownLaws
+mod LatchLaws
+mod PublicLaws
+mod ReadLaws
+mod RefusalLaws
+mod StepLaws
+mod YieldLaws

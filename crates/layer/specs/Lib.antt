@@ -1,0 +1,4 @@
+pub mod Steps
+pub mod Fetching
+pub mod Calls
+pub mod Demand3

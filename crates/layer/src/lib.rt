@@ -1,0 +1,177 @@
+// The layer: its public functions take any table and any images, and answer as document 01 says. What works on a checked table is private.
+ghost use mathlib.Core.Path.{_≡_};
+ghost use Rattle.definition.specs.Decide.{call, event, resume, deposit, fetch};
+ghost use Rattle.definition.specs.World.{own, latch};
+ghost use Rattle.definition.specs.Table.{tableStep};
+ghost use Rattle.definition.specs.Signed.{wordOf};
+ghost use Rattle.types.specs.Meaning.{answerOf};
+ghost use Rattle.layer.specs.Steps.{lent, Makes, MakesAlone, Starts};
+ghost use Rattle.layer.specs.Fetching.{numberOf, partOf, IsPart};
+
+mod fetches;
+mod known;
+mod refusals;
+mod work;
+
+use fetches::Found;
+use table::starts;
+use table_check::checks;
+use types::Answer;
+use types::Driver;
+use types::Image;
+use types::Process;
+use types::Registers;
+
+// A table of another length is refused with 2, then words that are no good board with 13; else the table is that of the fresh state.
+pub fn start(table: &mut [u32], board: &[u32]) -> Answer
+    ensures { λ r. ⌜ Starts (now (board .entry)) (now (table .entry)) (answerOf r) (now (table .exit)) ⌝ }
+{
+    starts::start(table, board)
+}
+
+// A call of a process: its class, and its four registers.
+pub fn call(
+    table: &mut [u32],
+    memory: &mut [u8],
+    process: Process,
+    class: u8,
+    registers: Registers,
+) -> Answer
+    ensures { λ r. ⌜ Makes (own (process .0) (call class (registers .r0) (registers .r1) (registers .r2) (registers .r3))) (now (table .entry)) (now (memory .entry)) (answerOf r) (now (table .exit)) (now (memory .exit)) ⌝ }
+{
+    if memory.len() != Image::BYTES {
+        return Answer::Refused(1);
+    }
+    if !checks::well_formed(table) {
+        return Answer::Refused(2);
+    }
+    work::call(table, memory, process, class, registers)
+}
+
+// A driver's event for a process's subscribe slot, with three arguments.
+pub fn event(
+    table: &mut [u32],
+    process: Process,
+    driver: Driver,
+    slot: u32,
+    argument0: u32,
+    argument1: u32,
+    argument2: u32,
+) -> Answer
+    ensures { λ r. ⌜ MakesAlone (own (process .0) (event (driver .0) slot argument0 argument1 argument2)) (now (table .entry)) (answerOf r) (now (table .exit)) ⌝ }
+{
+    if !checks::well_formed(table) {
+        return Answer::Refused(2);
+    }
+    work::event(
+        table,
+        process,
+        driver,
+        slot,
+        argument0,
+        argument1,
+        argument2,
+    )
+}
+
+// A process that waits is asked again.
+pub fn resume(table: &mut [u32], process: Process) -> Answer
+    ensures { λ r. ⌜ MakesAlone (own (process .0) resume) (now (table .entry)) (answerOf r) (now (table .exit)) ⌝ }
+{
+    if !checks::well_formed(table) {
+        return Answer::Refused(2);
+    }
+    work::resume(table, process)
+}
+
+// A driver's bytes for a process's read-write buffer, from an offset in it on.
+pub fn deposit(
+    table: &[u32],
+    memory: &mut [u8],
+    process: Process,
+    driver: Driver,
+    slot: u32,
+    offset: u32,
+    bytes: &[u8],
+) -> Answer
+    ensures { λ r. ⌜ Makes (own (process .0) (deposit (driver .0) slot offset (now (bytes .entry)))) (now (table .entry)) (now (memory .entry)) (answerOf r) (now (table .entry)) (now (memory .exit)) ⌝ }
+{
+    if memory.len() != Image::BYTES {
+        return Answer::Refused(1);
+    }
+    if !checks::well_formed(table) {
+        return Answer::Refused(2);
+    }
+    work::deposit(table, memory, process, driver, slot, offset, bytes)
+}
+
+// The number of a fetch: 0 where it is accepted.
+pub fn fetch_number(
+    table: &[u32],
+    memory: &[u8],
+    flash: &[u8],
+    process: Process,
+    driver: Driver,
+    slot: u32,
+    offset: u32,
+    length: u32,
+) -> u32
+    ensures { λ r. ⌜ r ≡ numberOf (tableStep (own (process .0) (fetch (driver .0) slot offset length)) (lent (now (table .entry)) (now (memory .entry)) (now (flash .entry))) .answer) ⌝ }
+{
+    if memory.len() != Image::BYTES {
+        return 1;
+    }
+    if flash.len() != Image::BYTES {
+        return 1;
+    }
+    if !checks::well_formed(table) {
+        return 2;
+    }
+    fetches::number(table, process, driver, slot, offset, length)
+}
+
+// Bytes of a process's read-only buffer, from an offset in it on: a part of the image that the buffer lies in.
+pub fn fetch<'a>(
+    table: &[u32],
+    memory: &'a [u8],
+    flash: &'a [u8],
+    process: Process,
+    driver: Driver,
+    slot: u32,
+    offset: u32,
+    length: u32,
+) -> &'a [u8]
+    ensures { λ r. ⌜ IsPart (partOf (tableStep (own (process .0) (fetch (driver .0) slot offset length)) (lent (now (table .entry)) (now (memory .entry)) (now (flash .entry))) .answer)) (memory .entry) (flash .entry) r ⌝ }
+{
+    if memory.len() != Image::BYTES {
+        return &memory[..0];
+    }
+    if flash.len() != Image::BYTES {
+        return &memory[..0];
+    }
+    if !checks::well_formed(table) {
+        return &memory[..0];
+    }
+    let found = fetches::find(table, process, driver, slot, offset, length);
+    match found {
+        Found::Empty => &memory[..0],
+        Found::InMemory(at) => {
+            let end = at + length as usize;
+            &memory[at..end]
+        }
+        Found::InFlash(at) => {
+            let end = at + length as usize;
+            &flash[at..end]
+        }
+    }
+}
+
+// A shared driver's value: a signed peak.
+pub fn latch(table: &mut [u32], driver: Driver, peak: i32) -> Answer
+    ensures { λ r. ⌜ MakesAlone (latch (driver .0) (wordOf peak)) (now (table .entry)) (answerOf r) (now (table .exit)) ⌝ }
+{
+    if !checks::well_formed(table) {
+        return Answer::Refused(2);
+    }
+    work::latch(table, driver, peak)
+}
