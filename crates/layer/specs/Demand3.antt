@@ -33,10 +33,11 @@ call-is (called p class r0 r1 r2 r3 t m f r t′ m′ c) = c f
 call-is (evented p driver j x y z t m f r t′ c) = c m f
 call-is (resumed p t m f r t′ c) = c m f
 call-is (deposited p driver j offset bytes t m f r m′ c) = c f
-call-is (handed p driver j offset n t m f number part en ep) =
+call-is (handed p driver j offset n t m f r number part en ep is) =
     let s = own p (fetch driver j offset n) in
-    let e : tableStep s (lent t m f) .answer ≡ fetched number part = fetches p driver j offset n (lent t m f) .whole ∙ ap₂ fetched (sym en) (sym ep) in
-    λ i. gave (e i) (unchanged .tables s (lent t m f) (ap changesNothing e) i)
+    let x : Lent = lent t (m .now) (f .now) in
+    let e : tableStep s x .answer ≡ fetched number part = fetches p driver j offset n x .whole ∙ ap₂ fetched (sym en) (sym ep) in
+    λ i. gave (e i) (unchanged .tables s x (ap changesNothing e) i)
 call-is (latched driver peak t m f r t′ c) = c m f
 
 -- ---- a list of calls is the definition's run
@@ -51,12 +52,13 @@ pub record Same (l : List Step) (x : Lent) (answers : List Answer) (y : Lent) : 
   pub given : answers ≡ allAnswers tableStep l x
   pub left : y ≡ after l x
 
-same : {l : List Step} {x : Lent} {answers : List Answer} {y : Lent} → Ran l x answers y → Same l x answers y
+-- the answers, and all that is lent, after a list of calls are those of the definition's run
+pub layer-runs : {l : List Step} {x : Lent} {answers : List Answer} {y : Lent} → Ran l x answers y → Same l x answers y
 unfolding answersTo run if_then_else_
-same (ended x) = record { given = refl; left = refl }
-same (next {s} {l} {r} {answers} {x} {y} {z} c ran) =
+layer-runs (ended x) = record { given = refl; left = refl }
+layer-runs (next {s} {l} {r} {answers} {x} {y} {z} c ran) =
     let e = call-is c in
-    let rest = same ran in
+    let rest = layer-runs ran in
     let y-is : y ≡ tableStep s x .after = sym (ap (λ (o : Out Lent). o .after) e) in
     record {
       given = ap₂ _∷_ (sym (ap (λ (o : Out Lent). o .answer) e)) (rest .given ∙ ap (allAnswers tableStep l) y-is);
@@ -69,7 +71,7 @@ layer-isolation words t m f t′ begun a h l none answers y ran =
     let x : Lent = lent t m f in
     let here : start words x .after ≡ lent t′ m f = ap (λ (o : Out Lent). o .after) began in
     let i = subst (λ (z : Lent). Isolated (boardOf words) a l z) here (isolation words x (ap (λ (o : Out Lent). o .answer) began) a h l none) in
-    let r = same ran in
+    let r = layer-runs ran in
     record {
       answers = ap (answersFor (isOwn a) l) (r .given) ∙ picked (isOwn a) l (lent t′ m f) ∙ i .own;
       process = ap (recordOf a) (r .left) ∙ i .alone .process;
