@@ -25,3 +25,4 @@ pub mod Fetched
 pub mod Stale
 pub mod Zero
 pub mod Form
+pub mod Replays
