@@ -1,10 +1,41 @@
 // Every word of several tables, replaced by a handful of other values: the proved check of a lent table must answer as the plain one in
-// `plain`, which is written apart from it. Prints how many tables are well formed, how many are refused, and on how many the two differ.
+// `plain`, which is written apart from it. Prints how many of these tables steps of the layer reach, then how many of all that are tried are
+// well formed, how many are refused, and on how many the two differ.
 
 mod plain;
+mod steps;
 mod tables;
 
 use libc::STDOUT_FILENO;
+
+fn same(a: &[u32], b: &[u32]) -> bool {
+    if a.len() != b.len() {
+        return false;
+    }
+    let mut i = 0;
+    while i < a.len() {
+        if a[i] != b[i] {
+            return false;
+        }
+        i += 1;
+    }
+    true
+}
+
+// How many of the tables the steps in `steps` reach, every word the same.
+fn count_reached(t: &mut [u32], stepped: &mut [u32], memory: &mut [u8]) -> u64 {
+    let mut n = 0u64;
+    let mut which = 0;
+    while which < 4 {
+        tables::make(t, which);
+        steps::reach(stepped, memory, t, which);
+        if same(t, stepped) {
+            n = std::num::wrapping_add_u64(n, 1);
+        }
+        which += 1;
+    }
+    n
+}
 
 // How often the two checks agree that a table is well formed, or that it is not, and how often they differ.
 struct Counts {
@@ -112,6 +143,12 @@ fn main() {
     let mut short = [0u32; 4161];
     let mut t = [0u32; 4162];
     let mut long = [0u32; 4163];
+    let mut stepped = [0u32; 4162];
+    let mut memory = [0u8; 65536];
+    print(
+        b"reached ",
+        count_reached(&mut t, &mut stepped, &mut memory),
+    );
     let mut n = Counts {
         well_formed: 0,
         refused: 0,

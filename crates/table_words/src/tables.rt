@@ -1,4 +1,4 @@
-// Tables that steps can reach from a start, written word by word into a lent array.
+// Tables that steps can reach from a start, as `steps` shows, written word by word into a lent array.
 ghost use Prim.Native.Nat.{_+_, _<_, _≤_};
 ghost use lib.ListN.{length};
 
@@ -17,7 +17,7 @@ pub fn clear(t: &mut [u32]) {
 }
 
 // A row of words, from a place on.
-fn put(t: &mut [u32], at: usize, row: &[u32])
+pub fn put(t: &mut [u32], at: usize, row: &[u32])
     requires { ⌜ at + length (now row) ≤ 4162 ⌝ }
 {
     let mut i = 0;
