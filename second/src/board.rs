@@ -1,5 +1,7 @@
 //! The limits, the board's words and what makes a board good.
 
+use std::slice::ChunksExact;
+
 /// Most processes on a board.
 pub const MAX_PROCESSES: usize = 8;
 /// Most drivers on a board.
@@ -14,8 +16,10 @@ pub const MEMORY: Area = Area::new(0x2000_0000, 0x2001_0000);
 /// The addresses that the flash image covers.
 pub const FLASH: Area = Area::new(0x0004_0000, 0x0005_0000);
 
-const PROCESS_WORDS: usize = 7;
-const DRIVER_WORDS: usize = 5;
+/// Words of one process on a board.
+pub const PROCESS_WORDS: usize = 7;
+/// Words of one driver on a board.
+pub const DRIVER_WORDS: usize = 5;
 
 /// Words of the largest board.
 pub const MAX_BOARD_WORDS: usize = board_words(MAX_PROCESSES, MAX_DRIVERS);
@@ -170,23 +174,15 @@ pub struct Board {
 impl Board {
     /// The board that these words describe, or None if it is not good.
     pub fn from_words(words: &[u32]) -> Option<Board> {
-        let (&processes, rest) = words.split_first()?;
-        let processes = count(processes, 1, MAX_PROCESSES)?;
-        let (process_words, rest) = rest.split_at_checked(PROCESS_WORDS * processes)?;
-        let (&drivers, driver_words) = rest.split_first()?;
-        let drivers = count(drivers, 0, MAX_DRIVERS)?;
-        if driver_words.len() != DRIVER_WORDS * drivers {
+        let (processes, drivers) = split_words(words)?;
+        let counts_are_good =
+            (1..=MAX_PROCESSES).contains(&processes.len()) && drivers.len() <= MAX_DRIVERS;
+        if !counts_are_good {
             return None;
         }
         let board = Board {
-            processes: process_words
-                .chunks_exact(PROCESS_WORDS)
-                .map(ProcessBoard::from_words)
-                .collect(),
-            drivers: driver_words
-                .chunks_exact(DRIVER_WORDS)
-                .map(DriverBoard::from_words)
-                .collect::<Option<_>>()?,
+            processes: processes.map(ProcessBoard::from_words).collect(),
+            drivers: drivers.map(DriverBoard::from_words).collect::<Option<_>>()?,
         };
         board.is_good().then_some(board)
     }
@@ -214,10 +210,15 @@ impl Board {
     }
 }
 
-/// The word as a count, if it is from `least` to `most`.
-fn count(word: u32, least: usize, most: usize) -> Option<usize> {
-    let count = word as usize;
-    (least <= count && count <= most).then_some(count)
+/// The words of each process and of each driver, if the two counts among the
+/// words fit their length. Counts beyond the limits can fit too.
+pub fn split_words(words: &[u32]) -> Option<(ChunksExact<'_, u32>, ChunksExact<'_, u32>)> {
+    let (&processes, rest) = words.split_first()?;
+    let (processes, rest) =
+        rest.split_at_checked(PROCESS_WORDS.checked_mul(processes as usize)?)?;
+    let (&drivers, rest) = rest.split_first()?;
+    let fits = DRIVER_WORDS.checked_mul(drivers as usize)? == rest.len();
+    fits.then(|| (processes.chunks_exact(PROCESS_WORDS), rest.chunks_exact(DRIVER_WORDS)))
 }
 
 fn every_pair<T>(items: &[T], holds: impl Fn(&T, &T) -> bool) -> bool {

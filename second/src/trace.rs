@@ -8,8 +8,12 @@ pub const MAX_TRACE_BYTES: usize = 65_536;
 /// Most bytes of one deposit record.
 pub const MAX_DEPOSIT_BYTES: u32 = 1_024;
 
-const MAX_CLASS: u32 = 255;
-const MAX_GROUPS: u32 = 5;
+/// The largest class that a call record can name.
+pub const MAX_CLASS: u32 = 255;
+
+/// Most groups of seven bits that a number has.
+pub const MAX_GROUPS: usize = 5;
+
 const GROUP_BITS: u32 = 7;
 const MORE: u8 = 0x80;
 
@@ -27,6 +31,15 @@ pub mod kind {
 #[derive(Clone, Copy, Debug, PartialEq, Eq)]
 pub struct Broken {
     pub offset: usize,
+}
+
+/// Why bytes do not begin with a number.
+#[derive(Clone, Copy, Debug, PartialEq, Eq)]
+pub enum BadNumber {
+    Cut,
+    NotShortest,
+    Over32Bits,
+    TooManyGroups,
 }
 
 /// A trace and the place up to which it has been read.
@@ -134,21 +147,30 @@ impl<'a> Reader<'a> {
         Some(numbers)
     }
 
-    /// A number in its shortest form and at most 32 bits.
     fn number(&mut self) -> Option<u32> {
-        let mut value = 0_u64;
-        for group in 0..MAX_GROUPS {
-            let byte = *self.trace.get(self.place)?;
-            self.place += 1;
-            value |= u64::from(byte & !MORE) << (GROUP_BITS * group);
-            if byte & MORE == 0 {
-                // A last group of zeros could have been left out.
-                let shortest = byte != 0 || group == 0;
-                return u32::try_from(value).ok().filter(|_| shortest);
-            }
-        }
-        None
+        let (number, length) = read_number(&self.trace[self.place..]).ok()?;
+        self.place += length;
+        Some(number)
     }
+}
+
+/// The number that the bytes begin with, in its shortest form and at most 32
+/// bits, and how many bytes it has.
+pub fn read_number(bytes: &[u8]) -> Result<(u32, usize), BadNumber> {
+    let mut value = 0_u64;
+    for group in 0..MAX_GROUPS {
+        let byte = *bytes.get(group).ok_or(BadNumber::Cut)?;
+        value |= u64::from(byte & !MORE) << (GROUP_BITS * group as u32);
+        if byte & MORE == 0 {
+            // A last group of zeros could have been left out.
+            if byte == 0 && group > 0 {
+                return Err(BadNumber::NotShortest);
+            }
+            let number = u32::try_from(value).map_err(|_| BadNumber::Over32Bits)?;
+            return Ok((number, group + 1));
+        }
+    }
+    Err(BadNumber::TooManyGroups)
 }
 
 /// Appends a number in its shortest form.

@@ -1,9 +1,12 @@
 //! The second program's tests.
 
+mod assembling;
 mod boards;
 mod cases;
 mod common;
 mod generator;
+mod incident;
+mod listing;
 mod mistakes;
 mod programs;
 mod properties;

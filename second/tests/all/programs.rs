@@ -1,4 +1,4 @@
-//! The two programs, run as programs.
+//! The three programs, run as programs.
 
 use std::fs;
 use std::io::Write;
@@ -8,17 +8,30 @@ use std::process::{Command, Output, Stdio};
 use second::generate::corpus::WHOLE_CASE;
 use second::generate::{generate, generate_mixed, Kind};
 use second::replay::replay_to_vec;
+use second::text::list::list_to_string;
 
 fn second(trace: &[u8]) -> Output {
-    let mut child = Command::new(env!("CARGO_BIN_EXE_second"))
+    run(Command::new(env!("CARGO_BIN_EXE_second")), trace)
+}
+
+fn listing(arguments: &[&str], input: &[u8]) -> Output {
+    let mut command = Command::new(env!("CARGO_BIN_EXE_listing"));
+    command.args(arguments);
+    run(command, input)
+}
+
+/// Runs a program with this standard input.
+fn run(mut command: Command, input: &[u8]) -> Output {
+    let mut child = command
         .stdin(Stdio::piped())
         .stdout(Stdio::piped())
+        .stderr(Stdio::piped())
         .spawn()
         .expect("the program starts");
-    let mut input = child.stdin.take().expect("its input is a pipe");
+    let mut pipe = child.stdin.take().expect("its input is a pipe");
     // It need not read all of a trace that is too long.
-    let _ = input.write_all(trace);
-    drop(input);
+    let _ = pipe.write_all(input);
+    drop(pipe);
     child.wait_with_output().expect("the program ends")
 }
 
@@ -77,4 +90,66 @@ fn generate_explains_wrong_arguments() {
     let output = generator(&["5", "other", "3"]);
     assert!(!output.status.success() && output.stdout.is_empty());
     assert!(String::from_utf8_lossy(&output.stderr).contains("usage"));
+}
+
+#[test]
+fn listing_lists_and_assembles() {
+    let listed = listing(&["-"], &WHOLE_CASE);
+    assert!(listed.status.success() && listed.stderr.is_empty());
+    assert_eq!(listed.stdout, list_to_string(&WHOLE_CASE).into_bytes());
+    let assembled = listing(&["--assemble", "-"], &listed.stdout);
+    assert!(assembled.status.success() && assembled.stderr.is_empty());
+    assert_eq!(assembled.stdout, WHOLE_CASE);
+}
+
+#[test]
+fn listing_reads_files() {
+    let trace = Path::new(env!("CARGO_TARGET_TMPDIR")).join("listed.trace");
+    let text = Path::new(env!("CARGO_TARGET_TMPDIR")).join("listed.txt");
+    fs::write(&trace, WHOLE_CASE).expect("the trace is written");
+    let listed = listing(&[trace.to_str().expect("a plain name")], &[]);
+    assert_eq!(listed.stdout, list_to_string(&WHOLE_CASE).into_bytes());
+    fs::write(&text, listed.stdout).expect("the text is written");
+    let assembled = listing(&["--assemble", text.to_str().expect("a plain name")], &[]);
+    assert_eq!(assembled.stdout, WHOLE_CASE);
+}
+
+#[test]
+fn listing_takes_empty_broken_and_too_long_traces() {
+    for trace in [&[][..], &[9, 1], &[0; 65_537], &[0; 200_000]] {
+        let listed = listing(&["-"], trace);
+        assert!(listed.status.success() && listed.stderr.is_empty());
+        assert_eq!(listed.stdout, list_to_string(trace).into_bytes());
+    }
+}
+
+/// Status 1, nothing on standard output, and this in the message.
+#[track_caller]
+fn assert_fails(output: Output, message: &str) {
+    assert_eq!(output.status.code(), Some(1));
+    assert!(output.stdout.is_empty());
+    let told = String::from_utf8_lossy(&output.stderr);
+    assert!(told.contains(message), "{told}");
+}
+
+#[test]
+fn listing_explains_bad_texts() {
+    let text = b"board\nresume process 0\nresume process zero\n";
+    let message = "-: line 3: found `zero`, expected a number from 0 to 4294967295 as process";
+    assert_fails(listing(&["--assemble", "-"], text), message);
+    assert_fails(
+        listing(&["--assemble", "-"], b"# \xFF\nboard\xFF"),
+        "-: line 2: found `board\u{FFFD}`",
+    );
+}
+
+#[test]
+fn listing_explains_wrong_arguments() {
+    for arguments in
+        [&[][..], &["--assemble"], &["--other"], &["a", "b"], &["--assemble", "a", "b"]]
+    {
+        assert_fails(listing(arguments, &[]), "usage: listing FILE");
+    }
+    assert_fails(listing(&["no-such.trace"], &[]), "no-such.trace: ");
+    assert_fails(listing(&["--assemble", "no-such.txt"], &[]), "no-such.txt: ");
 }

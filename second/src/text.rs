@@ -1,0 +1,13 @@
+//! Traces as text for people: a listing with answers, and the way back.
+//!
+//! `names` is the table of what each number of a record is called. `list` goes
+//! through it from numbers to words, `parse` from words to numbers, and
+//! `record` from bytes to numbers, or to the fault at which a record breaks.
+
+mod answer;
+pub mod list;
+mod names;
+pub mod parse;
+pub mod record;
+mod value;
+mod words;
