@@ -6,7 +6,7 @@ ghost use Rattle.definition.specs.Table.{tableStep};
 ghost use Rattle.definition.specs.Signed.{wordOf};
 ghost use Rattle.types.specs.Meaning.{answerOf};
 ghost use Rattle.layer.specs.Steps.{lent, Makes, MakesAlone, Starts};
-ghost use Rattle.layer.specs.Fetching.{numberOf, partOf, IsPart};
+ghost use Rattle.layer.specs.Fetching.{numberOf, partOf, IsPart, Lies};
 
 mod fetches;
 mod known;
@@ -21,6 +21,13 @@ use types::Driver;
 use types::Image;
 use types::Process;
 use types::Registers;
+
+// Where a part of an image lies: which image, the place of its first byte there, and how many bytes it has.
+pub struct Place {
+    pub image: Image,
+    pub place: u32,
+    pub length: u32,
+}
 
 // A table of another length is refused with 2, then words that are no good board with 13; else the table is that of the fresh state.
 pub fn start(table: &mut [u32], board: &[u32]) -> Answer
@@ -164,6 +171,32 @@ pub fn fetch<'a>(
             &flash[at..end]
         }
     }
+}
+
+// Where the part that a fetch hands back lies, for a host that is told of it in numbers.
+pub fn fetch_place(
+    table: &[u32],
+    memory: &[u8],
+    flash: &[u8],
+    process: Process,
+    driver: Driver,
+    slot: u32,
+    offset: u32,
+    length: u32,
+) -> Place
+    ensures { λ r. ⌜ Lies (partOf (tableStep (own (process .0) (fetch (driver .0) slot offset length)) (lent (now (table .entry)) (now (memory .entry)) (now (flash .entry))) .answer)) r ⌝ }
+{
+    if memory.len() != Image::BYTES {
+        return fetches::nowhere();
+    }
+    if flash.len() != Image::BYTES {
+        return fetches::nowhere();
+    }
+    if !checks::well_formed(table) {
+        return fetches::nowhere();
+    }
+    let found = fetches::find(table, process, driver, slot, offset, length);
+    fetches::at(found, length)
 }
 
 // A shared driver's value: a signed peak.

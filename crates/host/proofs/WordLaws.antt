@@ -1,0 +1,68 @@
+-- Laws of the words of an answer: how they get to the front of out, and what a host is told by them.
+use Prim.Native.Nat.{ℕ, _+_, _≤_, _<_}
+use mathlib.Core.Path.{_≡_, refl, sym, ap, ap₂, _∙_}
+use mathlib.Core.Bool.{Bool, true, false}
+use mathlib.Core.List.{List, [], _∷_, _++_}
+use native.Mathlib.Omega.{arith}
+use lib.ListN.{length, drop}
+use lib.Dec.{leb}
+use borrow.Author.Tests.{le-leb, lt-leb}
+use Rattle.definition.specs.Tests.{if_then_else_}
+use Rattle.definition.specs.Answer.{Part, Answer, fetched, changesNothing}
+use Rattle.definition.specs.Decide.{fetch}
+use Rattle.definition.specs.World.{Step, own, Out}
+use Rattle.definition.specs.Table.{Lent, tableStep}
+use Rattle.theorems.specs.Unchanged.{unchanged}
+use Rattle.types.specs.declared.Image.{Image as Named}
+use Rattle.words.specs.Splice.{splice}
+use Rattle.layer.specs.declared.Place.{Place}
+use Rattle.layer.specs.Steps.{lent, gave}
+use Rattle.layer.specs.Fetching.{numberOf, partOf, imageOf, Lies}
+use Rattle.layer.specs.Demand3.{fetches}
+use Rattle.host.specs.Answers.{imageWord, answerWords, placeWords, told, tell}
+
+-- a row that is put at the front of out
+pub put-front : (row out : List ℕ) → length row ≡ 6 → splice 0 row out ≡ row ++ drop 6 out
+unfolding splice
+put-front row out e = let z : 0 + length row ≡ 6 = omega arith in ap (λ (n : ℕ). row ++ drop n out) z
+
+-- ---- what a host is told
+
+module _ (step : Lent → Out Lent) (x : Lent) (out : List ℕ) where
+  -- out has no room
+  pub told-nothing : length out < 6 → tell step x out ≡ told false x out
+  unfolding tell if_then_else_
+  told-nothing h = rw (lt-leb 6 (length out) h)
+
+  -- it has
+  pub told-answer : (r : Answer) (x′ : Lent) (out′ : List ℕ) → 6 ≤ length out → step x ≡ gave r x′ → out′ ≡ answerWords r ++ drop 6 out → tell step x out ≡ told true x′ out′
+  unfolding tell if_then_else_
+  told-answer r x′ out′ h e w =
+      let room : leb 6 (length out) ≡ true = le-leb 6 (length out) h in
+      rw room (ap₂ (λ (o : Out Lent) (l : List ℕ). told true (o .after) l) e (ap (λ (o : Out Lent). answerWords (o .answer) ++ drop 6 out) e ∙ sym w))
+
+-- ---- of a fetch
+
+-- the word of the image that the code has matched
+pub image-told : (n : ℕ) (place : Place) (i : Named) → place .image ≡ i → (11 ∷ n ∷ imageWord (imageOf i) ∷ place .place ∷ place .length ∷ 0 ∷ []) ≡ placeWords n place
+image-told n place i e = ap (λ (i : Named). 11 ∷ n ∷ imageWord (imageOf i) ∷ place .place ∷ place .length ∷ 0 ∷ []) (sym e)
+
+pub place-words : (n : ℕ) (x : Part) (place : Place) → Lies x place → placeWords n place ≡ answerWords (fetched n x)
+place-words n x place l =
+    ap₂ (λ (i p : ℕ). 11 ∷ n ∷ i ∷ p ∷ place .length ∷ 0 ∷ []) (ap imageWord (l .image)) (l .place)
+    ∙ ap (λ (k : ℕ). 11 ∷ n ∷ imageWord (x .image) ∷ x .place ∷ k ∷ 0 ∷ []) (l .size)
+
+module _ (p driver j offset n : ℕ) (x : Lent) where
+  abbrev asked : Step
+  asked = own p (fetch driver j offset n)
+
+  abbrev given : Answer
+  given = tableStep asked x .answer
+
+  -- a fetch leaves all as it was, and its answer is its number and its part
+  pub told-place : (number : ℕ) (place : Place) (out out′ : List ℕ) → 6 ≤ length out → number ≡ numberOf given → Lies (partOf given) place → out′ ≡ placeWords number place ++ drop 6 out
+      → tell (tableStep asked) x out ≡ told true x out′
+  told-place number place out out′ h en l w =
+      let whole = fetches p driver j offset n x .whole in
+      told-answer (tableStep asked) x out given x out′ h (λ i. gave given (unchanged .tables asked x (ap changesNothing whole) i))
+      (w ∙ ap (λ (s : List ℕ). s ++ drop 6 out) (ap (λ (k : ℕ). placeWords k place) en ∙ place-words (numberOf given) (partOf given) place l ∙ sym (ap answerWords whole)))

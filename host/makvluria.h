@@ -1,0 +1,145 @@
+/* The layer, for C: its steps on numbers and slices, in the static library that `rt staticlib host` writes (target/staticlib/libhost.a,
+ * x86-64). Each is proved for any numbers and any contents and lengths; crates/host/src/lib.rt has the contracts.
+ *
+ * A slice is a pointer and its number of elements, in that order. What a C caller owes, since nothing can check it here:
+ *  - a pointer is not null, is aligned, and reaches that many elements, also where there are none (then nothing is read or written);
+ *  - a slice that is not const overlaps no other slice of the same call;
+ *  - nothing else reads or writes a slice until the call returns.
+ *
+ * A step writes its answer into the first MK_ANSWER_WORDS words of out, and returns true. Where out is shorter nothing is done and nothing
+ * changes: it returns false. */
+#ifndef MAKVLURIA_H
+#define MAKVLURIA_H
+
+#include <stdbool.h>
+#include <stddef.h>
+#include <stdint.h>
+
+#ifdef __cplusplus
+extern "C" {
+#endif
+
+/* Sizes: the words of every table, the bytes of each image, and the most words that a board has. */
+#define MK_TABLE_WORDS 4162
+#define MK_IMAGE_BYTES 65536
+#define MK_BOARD_WORDS 138
+#define MK_ANSWER_WORDS 6
+
+/* The addresses of the images' first bytes. */
+#define MK_MEMORY_BASE 0x20000000u
+#define MK_FLASH_BASE 0x00040000u
+
+/* The kind of an answer, out[0], with the words after it; all others are 0. */
+enum mk_kind {
+  MK_REFUSED = 0,    /* the refusal's number (enum mk_refusal) */
+  MK_REGISTERS = 1,  /* a call's return registers r0 to r3 */
+  MK_DELIVERED = 2,  /* an upcall: its pointer, then its registers: three arguments and the application data */
+  MK_WAITING = 3,
+  MK_NOTHING = 4,    /* a yield with nothing to deliver */
+  MK_TAKEN = 5,      /* an event is queued */
+  MK_DEPOSITED = 6,
+  MK_LATCHED = 7,
+  MK_STARTED = 8,
+  MK_EXITED = 9,     /* the completion code */
+  MK_RESTARTED = 10, /* the completion code */
+  MK_FETCHED = 11    /* the refusal's number, 0 where accepted; image (enum mk_image), place of the first byte in it, length */
+};
+
+enum mk_image { MK_MEMORY = 0, MK_FLASH = 1 };
+
+/* Why a step is refused. The first that applies is given, in this order but for 11, which stands before 10. */
+enum mk_refusal {
+  MK_ACCEPTED = 0,
+  MK_NO_IMAGE = 1,         /* a lent image is not MK_IMAGE_BYTES long */
+  MK_NO_TABLE = 2,         /* the table is not well formed; for start, is not MK_TABLE_WORDS long */
+  MK_NO_PROCESS = 3,
+  MK_PROCESS_EXITED = 4,
+  MK_PROCESS_WAITS = 5,    /* a call by a waiting process */
+  MK_PROCESS_RUNS = 6,     /* a resume of a running process */
+  MK_NO_DRIVER = 7,
+  MK_NO_SLOT = 8,
+  MK_PAST_THE_BUFFER = 9,  /* offset and length exceed the held size */
+  MK_QUEUE_FULL = 10,
+  MK_NULL_UPCALL = 11,     /* an event for a slot whose pointer is 0 */
+  MK_NOT_SHARED = 12,      /* a latch of an unshared driver */
+  MK_NO_BOARD = 13         /* start with a board that is not good */
+};
+
+/* Call classes (TRD 104, 4). */
+enum mk_class {
+  MK_CLASS_YIELD = 0,
+  MK_CLASS_SUBSCRIBE = 1,
+  MK_CLASS_COMMAND = 2,
+  MK_CLASS_READWRITE_ALLOW = 3,
+  MK_CLASS_READONLY_ALLOW = 4,
+  MK_CLASS_MEMOP = 5,
+  MK_CLASS_EXIT = 6
+};
+
+/* r0 of a call's return registers, by libtock-c's names. Define MK_NO_TOCK_NAMES where its tock.h is included too. */
+#ifndef MK_NO_TOCK_NAMES
+typedef enum {
+  TOCK_SYSCALL_FAILURE = 0,
+  TOCK_SYSCALL_FAILURE_U32 = 1,
+  TOCK_SYSCALL_FAILURE_U32_U32 = 2,
+  TOCK_SYSCALL_FAILURE_U64 = 3,
+  TOCK_SYSCALL_SUCCESS = 128,
+  TOCK_SYSCALL_SUCCESS_U32 = 129,
+  TOCK_SYSCALL_SUCCESS_U32_U32 = 130,
+  TOCK_SYSCALL_SUCCESS_U64 = 131,
+  TOCK_SYSCALL_SUCCESS_U32_U32_U32 = 132
+} syscall_rtype_t;
+
+/* r1 of a Failure, by libtock-c's names. */
+typedef enum {
+  TOCK_STATUSCODE_SUCCESS = 0,
+  TOCK_STATUSCODE_FAIL = 1,
+  TOCK_STATUSCODE_BUSY = 2,
+  TOCK_STATUSCODE_ALREADY = 3,
+  TOCK_STATUSCODE_OFF = 4,
+  TOCK_STATUSCODE_RESERVE = 5,
+  TOCK_STATUSCODE_INVAL = 6,
+  TOCK_STATUSCODE_SIZE = 7,
+  TOCK_STATUSCODE_CANCEL = 8,
+  TOCK_STATUSCODE_NOMEM = 9,
+  TOCK_STATUSCODE_NOSUPPORT = 10,
+  TOCK_STATUSCODE_NODEVICE = 11,
+  TOCK_STATUSCODE_UNINSTALLED = 12,
+  TOCK_STATUSCODE_NOACK = 13
+} statuscode_t;
+#endif
+
+/* Whether the words are a table: the image of a state with a good board. */
+bool mk_table_well_formed(const uint32_t *table, size_t table_words);
+
+/* Makes the table that of the fresh state of a board. */
+bool mk_start(uint32_t *table, size_t table_words, const uint32_t *board, size_t board_words, uint32_t *out, size_t out_words);
+
+/* A call of a process: its class, and its four registers. */
+bool mk_call(uint32_t *table, size_t table_words, uint8_t *memory, size_t memory_bytes, uint32_t process, uint8_t class_number,
+             uint32_t r0, uint32_t r1, uint32_t r2, uint32_t r3, uint32_t *out, size_t out_words);
+
+/* A driver's event for a process's subscribe slot, with three arguments. */
+bool mk_event(uint32_t *table, size_t table_words, uint32_t process, uint32_t driver, uint32_t slot, uint32_t argument0,
+              uint32_t argument1, uint32_t argument2, uint32_t *out, size_t out_words);
+
+/* A process that waits is asked again. */
+bool mk_resume(uint32_t *table, size_t table_words, uint32_t process, uint32_t *out, size_t out_words);
+
+/* A driver's bytes for a process's read-write buffer, from an offset in it on. */
+bool mk_deposit(const uint32_t *table, size_t table_words, uint8_t *memory, size_t memory_bytes, uint32_t process, uint32_t driver,
+                uint32_t slot, uint32_t offset, const uint8_t *bytes, size_t bytes_length, uint32_t *out, size_t out_words);
+
+/* Where bytes of a process's read-only buffer lie, from an offset in it on: the caller reads them there. */
+bool mk_fetch(const uint32_t *table, size_t table_words, const uint8_t *memory, size_t memory_bytes, const uint8_t *flash,
+              size_t flash_bytes, uint32_t process, uint32_t driver, uint32_t slot, uint32_t offset, uint32_t length, uint32_t *out,
+              size_t out_words);
+
+/* A shared driver's value: a signed peak. */
+bool mk_latch(uint32_t *table, size_t table_words, uint32_t driver, int32_t peak, uint32_t *out, size_t out_words);
+
+#ifdef __cplusplus
+}
+#endif
+
+#endif
