@@ -9,7 +9,7 @@ use Rattle.definition.specs.Trace.{maxNumber, maxClass, maxDeposit, number, fie
 use Rattle.trace.specs.Meaning.{numberFound, Filled, fieldsOf, recordFound}
 use Rattle.trace.specs.Answers.{value-found, broken-found, cut-found}
 use Rattle.trace.specs.Reads.{then-found, then-spoiled, then-cut, read-end}
-use Rattle.trace.specs.TraceLaws.{bytes-in, bytes-out}
+use Rattle.trace.specs.TraceLaws.{each-kind, bytes-in, bytes-out}
 use Rattle.trace.specs.declared.numbers.Number.the-variants as N
 use Rattle.trace.specs.declared.records.Place.the-variants as P
 use Rattle.trace.specs.declared.records.Kind.{Kind}
@@ -31,33 +31,17 @@ rows =
 -- a row has the limits of its kind
 pub row-limits : (k : ℕ) (d : Kind) → k ≤ lastKind → take (getD rows k d .fields) (getD rows k d .limits) ≡ getD kinds k []
 unfolding kinds
-row-limits zero d h = refl
-row-limits (suc zero) d h = refl
-row-limits (suc (suc zero)) d h = refl
-row-limits (suc (suc (suc zero))) d h = refl
-row-limits (suc (suc (suc (suc zero)))) d h = refl
-row-limits (suc (suc (suc (suc (suc zero))))) d h = refl
-row-limits (suc (suc (suc (suc (suc (suc k)))))) d h = absurd (omega arith)
+row-limits k d = each-kind (λ k. take (getD rows k d .fields) (getD rows k d .limits) ≡ getD kinds k []) refl refl refl refl refl refl k
 
 pub row-fields : (k : ℕ) (d : Kind) → k ≤ lastKind → (getD rows k d .fields ≤ length (getD rows k d .limits)) × (getD rows k d .fields ≡ length (getD kinds k []))
 unfolding kinds
-row-fields zero d h = (omega arith, refl)
-row-fields (suc zero) d h = (omega arith, refl)
-row-fields (suc (suc zero)) d h = (omega arith, refl)
-row-fields (suc (suc (suc zero))) d h = (omega arith, refl)
-row-fields (suc (suc (suc (suc zero)))) d h = (omega arith, refl)
-row-fields (suc (suc (suc (suc (suc zero))))) d h = (omega arith, refl)
-row-fields (suc (suc (suc (suc (suc (suc k)))))) d h = absurd (omega arith)
+row-fields k d =
+    each-kind (λ k. (getD rows k d .fields ≤ length (getD rows k d .limits)) × (getD rows k d .fields ≡ length (getD kinds k [])))
+    (omega arith, refl) (omega arith, refl) (omega arith, refl) (omega arith, refl) (omega arith, refl) (omega arith, refl) k
 
 pub kind-most : (k : ℕ) → k ≤ lastKind → length (getD kinds k []) ≤ 6
 unfolding kinds
-kind-most zero h = omega arith
-kind-most (suc zero) h = omega arith
-kind-most (suc (suc zero)) h = omega arith
-kind-most (suc (suc (suc zero))) h = omega arith
-kind-most (suc (suc (suc (suc zero)))) h = omega arith
-kind-most (suc (suc (suc (suc (suc zero))))) h = omega arith
-kind-most (suc (suc (suc (suc (suc (suc k)))))) h = absurd (omega arith)
+kind-most = each-kind (λ k. length (getD kinds k []) ≤ 6) (omega arith) (omega arith) (omega arith) (omega arith) (omega arith) (omega arith)
 
 -- ---- fields that zeros follow
 

@@ -48,7 +48,7 @@ impl Record {
     // The most fields that a kind has.
     pub const FIELDS: usize = 6;
 
-    // call, event, resume, deposit, fetch, latch
+    // The kinds in order: call, event, resume, deposit, fetch, latch. A row is filled up with zeros.
     const KINDS: [Kind; Record::LAST_KIND as usize + 1] = [
         Kind {
             fields: 6,
