@@ -143,8 +143,9 @@ fn compare(name: &str, trace: &[u8]) -> usize {
 #[test]
 fn generated_traces() {
     let seed = env::var("MAKVLURIA_SEED").map_or(SEED, |seed| seed.parse().unwrap());
-    let lines: usize =
-        (0..TRACES).map(|index| compare(&format!("{seed}-{index}"), &generate_mixed(seed, index))).sum();
+    let lines: usize = (0..TRACES)
+        .map(|index| compare(&format!("{seed}-{index}"), &generate_mixed(seed, index)))
+        .sum();
     println!("seed {seed}: {TRACES} traces, {lines} lines, all equal");
 }
 
