@@ -6,8 +6,10 @@
 // refused too. What is deposited for process 1 lands in its buffer, and in no other byte of the image.
 
 use libc::STDOUT_FILENO;
+use table::Table;
 use types::Answer;
 use types::Driver;
+use types::Image;
 use types::Process;
 use types::Registers;
 
@@ -100,8 +102,8 @@ fn main() {
         0,
         1,
     ];
-    let mut table = [0u32; 4162];
-    let mut memory = [0u8; 65536];
+    let mut table = [0u32; Table::WORDS];
+    let mut memory = [0u8; Image::BYTES];
     let data = [71, 80, 83, 33];
 
     print_answer(layer::start(&mut table, &board));

@@ -8,6 +8,8 @@ ghost use Rattle.definition.specs.Trace.{fields, board, kinds, lastKind, bytesA
 ghost use Rattle.trace.specs.Meaning.{Filled, Boarded, recordFound};
 use super::numbers::Number;
 use super::numbers::number_at;
+use types::Driver;
+use types::Process;
 
 // The place after the fields that were read; or the bytes are broken, or end first.
 enum Place {
@@ -81,7 +83,13 @@ impl Record {
 pub struct Board;
 
 impl Board {
-    pub const MAX_WORDS: usize = 138;
+    // The words of a process and of a driver.
+    const AREAS: usize = 7;
+
+    const DRIVER: usize = 5;
+
+    // P and D, and as many processes and drivers as there may be.
+    pub const MAX_WORDS: usize = 2 + Board::AREAS * Process::MAX + Board::DRIVER * Driver::MAX;
 }
 
 // A record; or the bytes are broken, or end first.
