@@ -1,5 +1,5 @@
 /* The incident, from C. Process 0 lent a buffer at 0xFFFFFFFF with size 2; the sum of the two wraps in 32 bits. Here it is refused, and
- * what a driver deposits for process 1 lands in process 1's buffer and nowhere else. Then each other step once. */
+ * what a driver deposits for process 1 lands in process 1's buffer and nowhere else. Then each other step once, and a run over a trace. */
 #include <inttypes.h>
 #include <stdio.h>
 
@@ -103,11 +103,41 @@ static void each_other_step(void) {
   call("process 1 reads", 1, MK_CLASS_COMMAND, CORRELATOR, 3, 0, 0);
 }
 
+/* Prints the lines of a trace as they come. The room is small, so that a run of a few lines pauses; one that fetches many bytes needs
+ * more, up to MK_LINES_BYTES. */
+static void replay(const uint8_t *trace, size_t trace_bytes) {
+  uint8_t lines[64];
+  uint64_t run[MK_RUN_WORDS];
+  size_t at = 0;
+  while (mk_replay(trace, trace_bytes, at, table, MK_TABLE_WORDS, memory, MK_IMAGE_BYTES, flash, MK_IMAGE_BYTES, lines, sizeof lines, run,
+                   MK_RUN_WORDS)) {
+    fwrite(lines, 1, run[2], stdout);
+    if (run[0] == MK_ENDED) {
+      printf("the run ended\n");
+      return;
+    }
+    printf("the run paused at byte %" PRIu64 "\n", run[1]);
+    if (run[1] == at) {
+      printf("its next line does not fit in %zu bytes\n", sizeof lines);
+      return;
+    }
+    at = run[1];
+  }
+}
+
+/* A board with one process; it asks where its memory starts, waits for an upcall, and is asked again. */
+static const uint8_t whole_case[] = {
+  0x09, 0x01, 0x80, 0x80, 0x80, 0x80, 0x02, 0x80, 0x80, 0x84, 0x80, 0x02, 0x80, 0x80, 0x84, 0x80,
+  0x02, 0x80, 0x80, 0x80, 0x80, 0x02, 0x80, 0x80, 0x10, 0x80, 0x80, 0x14, 0x00, 0x00, 0x00, 0x00,
+  0x05, 0x02, 0x00, 0x00, 0x00, 0x00, 0x00, 0x00, 0x01, 0x00, 0x00, 0x00, 0x02, 0x00,
+};
+
 int main(void) {
   print_answer("an answer of one word", mk_start(table, MK_TABLE_WORDS, board, sizeof board / sizeof *board, out, 1));
   print_answer("start", mk_start(table, MK_TABLE_WORDS, board, sizeof board / sizeof *board, out, MK_ANSWER_WORDS));
   incident();
   each_other_step();
   printf("the table is %swell formed\n", mk_table_well_formed(table, MK_TABLE_WORDS) ? "" : "not ");
+  replay(whole_case, sizeof whole_case);
   return 0;
 }

@@ -1,13 +1,14 @@
-/* The layer, for C: its steps on numbers and slices, in the static library that `rt staticlib host` writes (target/staticlib/libhost.a,
- * x86-64). Each is proved for any numbers and any contents and lengths; crates/host/src/lib.rt has the contracts.
+/* The layer, for C: its steps on numbers and slices, and its run over a trace, in the static library that `rt staticlib host` writes
+ * (target/staticlib/libhost.a, x86-64). Each is proved for any numbers and any contents and lengths; crates/host/src/lib.rt has the
+ * contracts.
  *
  * A slice is a pointer and its number of elements, in that order. What a C caller owes, since nothing can check it here:
  *  - a pointer is not null, is aligned, and reaches that many elements, also where there are none (then nothing is read or written);
  *  - a slice that is not const overlaps no other slice of the same call;
  *  - nothing else reads or writes a slice until the call returns.
  *
- * A step writes its answer into the first MK_ANSWER_WORDS words of out, and returns true. Where out is shorter nothing is done and nothing
- * changes: it returns false. */
+ * A step writes its answer into the first MK_ANSWER_WORDS words of out, a run how far it came into the first MK_RUN_WORDS, and it returns
+ * true. Where out is shorter nothing is done and nothing changes: it returns false. */
 #ifndef MAKVLURIA_H
 #define MAKVLURIA_H
 
@@ -24,6 +25,8 @@ extern "C" {
 #define MK_IMAGE_BYTES 65536
 #define MK_BOARD_WORDS 138
 #define MK_ANSWER_WORDS 6
+#define MK_RUN_WORDS 3
+#define MK_LINES_BYTES 262167 /* room for the longest line */
 
 /* The addresses of the images' first bytes. */
 #define MK_MEMORY_BASE 0x20000000u
@@ -137,6 +140,22 @@ bool mk_fetch(const uint32_t *table, size_t table_words, const uint8_t *memory, 
 
 /* A shared driver's value: a signed peak. */
 bool mk_latch(uint32_t *table, size_t table_words, uint32_t driver, int32_t peak, uint32_t *out, size_t out_words);
+
+/* Whether a run has ended, out[0]. After it: the place in the trace to go on from, 0 where it has, and the bytes written to lines. */
+enum mk_run { MK_ENDED = 0, MK_PAUSED = 1 };
+
+/* The run over a trace of any length, from a place in it on: 0 for all of it, from the board on; or the place at which it paused, with the
+ * table and the images as it left them. Its lines go to the front of lines, whole ones only; the rest of lines stays as it was.
+ *
+ * It pauses where fewer than 64 bytes of room are left, or fewer than 23 + 4 * length before a fetch's line. With MK_LINES_BYTES in lines
+ * every call comes further; with fewer, a pause at the place where the call began says that this room is too small. At place 0 it says that
+ * nothing was begun.
+ *
+ * A table or an image that does not fit is refused by the lines, X 2 or X 1, and the run goes on. A board that is not good (X 13) or a
+ * broken record (B) ends it. */
+bool mk_replay(const uint8_t *trace, size_t trace_bytes, size_t at, uint32_t *table, size_t table_words, uint8_t *memory,
+               size_t memory_bytes, const uint8_t *flash, size_t flash_bytes, uint8_t *lines, size_t lines_bytes, uint64_t *out,
+               size_t out_words);
 
 #ifdef __cplusplus
 }

@@ -1,4 +1,5 @@
-//! A plain Rust check of a table's words (docs/LAYOUT.md): the job that the proved check does, as one would write it by hand.
+//! A plain Rust check of a table's words (docs/LAYOUT.md): the job that the proved check does, as
+//! one would write it by hand.
 
 const PROCESSES: usize = 8;
 const DRIVERS: usize = 16;
@@ -24,8 +25,16 @@ fn disjoint(a: u32, a_end: u32, b: u32, b_end: u32) -> bool {
 }
 
 fn good_areas(a: &[u32], drivers: usize) -> bool {
-    0x2000_0000 <= a[0] && a[0] <= a[3] && a[3] <= a[2] && a[2] <= a[1] && a[1] <= 0x2001_0000 && a[0] < a[1]
-        && 0x0004_0000 <= a[4] && a[4] < a[5] && a[5] <= 0x0005_0000 && a[6] < 1 << drivers
+    0x2000_0000 <= a[0]
+        && a[0] <= a[3]
+        && a[3] <= a[2]
+        && a[2] <= a[1]
+        && a[1] <= 0x2001_0000
+        && a[0] < a[1]
+        && 0x0004_0000 <= a[4]
+        && a[4] < a[5]
+        && a[5] <= 0x0005_0000
+        && a[6] < 1 << drivers
 }
 
 fn good_board(t: &[u32], processes: usize, drivers: usize) -> bool {
@@ -42,7 +51,9 @@ fn good_board(t: &[u32], processes: usize, drivers: usize) -> bool {
         })
         && (0..drivers).all(|k| {
             let d = driver(k);
-            d[1..4].iter().all(|&n| n as usize <= SLOTS) && d[4] <= 1 && (0..k).all(|i| driver(i)[0] != d[0])
+            d[1..4].iter().all(|&n| n as usize <= SLOTS)
+                && d[4] <= 1
+                && (0..k).all(|i| driver(i)[0] != d[0])
         })
 }
 
@@ -50,7 +61,11 @@ fn good_slot(kind: usize, areas: &[u32], limit: u32, pair: &[u32]) -> bool {
     match kind {
         0 => pair[0] == 0 || within(areas[4], areas[5], pair[0], 1),
         1 => pair[1] == 0 || within(areas[0], limit, pair[0], pair[1]),
-        _ => pair[1] == 0 || within(areas[0], limit, pair[0], pair[1]) || within(areas[4], areas[5], pair[0], pair[1]),
+        _ => {
+            pair[1] == 0
+                || within(areas[0], limit, pair[0], pair[1])
+                || within(areas[4], areas[5], pair[0], pair[1])
+        }
     }
 }
 
@@ -61,7 +76,11 @@ fn good_slots(t: &[u32], run: &[u32], areas: &[u32], drivers: usize) -> bool {
             (0..SLOTS).all(|j| {
                 let at = 3 + ((kind * DRIVERS + k) * SLOTS + j) * 2;
                 let pair = &run[at..at + 2];
-                if j < held { good_slot(kind, areas, run[1], pair) } else { zero(pair) }
+                if j < held {
+                    good_slot(kind, areas, run[1], pair)
+                } else {
+                    zero(pair)
+                }
             })
         })
     })
@@ -83,7 +102,9 @@ fn good_queue(t: &[u32], run: &[u32], drivers: usize) -> bool {
 fn good_process(t: &[u32], p: usize, drivers: usize) -> bool {
     let areas = &t[1 + p * 7..8 + p * 7];
     let run = &t[RUNS_AT + p * RUN..RUNS_AT + (p + 1) * RUN];
-    run[0] < 3 && areas[0] <= run[1] && run[1] <= areas[2]
+    run[0] < 3
+        && areas[0] <= run[1]
+        && run[1] <= areas[2]
         && good_slots(t, run, areas, drivers)
         && good_queue(t, run, drivers)
         && (run[0] != 2 || (run[1] == areas[3] && zero(&run[2..])))
@@ -105,7 +126,8 @@ pub fn well_formed(t: &[u32]) -> bool {
         return false;
     }
     let (processes, drivers) = (t[0] as usize, t[DRIVERS_AT] as usize);
-    processes <= PROCESSES && drivers <= DRIVERS
+    processes <= PROCESSES
+        && drivers <= DRIVERS
         && zero(&t[1 + processes * 7..DRIVERS_AT])
         && zero(&t[DRIVERS_AT + 1 + drivers * 5..CLAIMS_AT])
         && zero(&t[CLAIMS_AT + drivers * 2..RUNS_AT])

@@ -1,14 +1,17 @@
-// What a C or Rust host links: the layer's steps on numbers and slices. Each says what it did in six words of a slice that the host lends,
-// and takes any numbers and slices.
+// What a C or Rust host links: the layer's steps on numbers and slices, and its run over a trace. Each takes any numbers and slices; a step
+// says what it did in six words of a slice that the host lends, and the run in three.
 ghost use mathlib.Core.Path.{_≡_};
 ghost use Rattle.definition.specs.Decide.{call, event, resume, deposit, fetch};
 ghost use Rattle.definition.specs.World.{own, latch};
 ghost use Rattle.definition.specs.Signed.{wordOf};
 ghost use Rattle.definition.specs.Image.{wellFormed};
 ghost use Rattle.definition.specs.Table.{tableStep, start};
+ghost use Rattle.layer.specs.Steps.{lent};
 ghost use Rattle.host.specs.Answers.{Writes, WritesAlone, WritesOnly};
+ghost use Rattle.host.specs.Runs.{Runs};
 
 mod answers;
+mod progress;
 
 use types::Driver;
 use types::Process;
@@ -184,5 +187,26 @@ pub extern "C" fn mk_latch(table: &mut [u32], driver: u32, peak: i32, out: &mut 
     }
     let latched = layer::latch(table, Driver(driver), peak);
     answers::tell(out, latched);
+    true
+}
+
+// The run over a trace from a place on, 0 for all of it; its lines go to the front of `lines`.
+#[no_mangle]
+pub extern "C" fn mk_replay(
+    trace: &[u8],
+    at: usize,
+    table: &mut [u32],
+    memory: &mut [u8],
+    flash: &[u8],
+    lines: &mut [u8],
+    out: &mut [u64],
+) -> bool
+    ensures { λ r. ⌜ Runs (now (trace .entry)) (lent (now (table .entry)) (now (memory .entry)) (now (flash .entry))) at (now (lines .entry)) (now (out .entry)) r (lent (now (table .exit)) (now (memory .exit)) (now (flash .entry))) (now (lines .exit)) (now (out .exit)) ⌝ }
+{
+    if out.len() < progress::WORDS {
+        return false;
+    }
+    let played = layer::replay(trace, at, table, memory, flash, lines);
+    progress::tell(out, played);
     true
 }

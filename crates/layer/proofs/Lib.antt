@@ -10,5 +10,6 @@ mod LatchLaws
 mod PublicLaws
 mod ReadLaws
 mod RefusalLaws
+mod ReplayLaws
 mod StepLaws
 mod YieldLaws

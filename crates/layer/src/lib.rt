@@ -7,13 +7,15 @@ ghost use Rattle.definition.specs.Signed.{wordOf};
 ghost use Rattle.types.specs.Meaning.{answerOf};
 ghost use Rattle.layer.specs.Steps.{lent, Makes, MakesAlone, Starts};
 ghost use Rattle.layer.specs.Fetching.{numberOf, partOf, IsPart, Lies};
+ghost use Rattle.layer.specs.Replaying.{Plays};
 
 mod fetches;
 mod known;
 mod refusals;
+mod replays;
+mod steps;
 mod work;
 
-use fetches::Found;
 use table::starts;
 use table_check::checks;
 use types::Answer;
@@ -27,6 +29,13 @@ pub struct Place {
     pub image: Image,
     pub place: u32,
     pub length: u32,
+}
+
+// How far a run over a trace has come: it has ended, with so many bytes written; or it has paused for want of room before what stands at a
+// place of the trace, with so many bytes written, all of them whole lines.
+pub enum Progress {
+    Ended(usize),
+    Paused(usize, usize),
 }
 
 // A table of another length is refused with 2, then words that are no good board with 13; else the table is that of the fresh state.
@@ -46,13 +55,8 @@ pub fn call(
 ) -> Answer
     ensures { λ r. ⌜ Makes (own (process .0) (call class (registers .r0) (registers .r1) (registers .r2) (registers .r3))) (now (table .entry)) (now (memory .entry)) (answerOf r) (now (table .exit)) (now (memory .exit)) ⌝ }
 {
-    if memory.len() != Image::BYTES {
-        return Answer::Refused(1);
-    }
-    if !checks::well_formed(table) {
-        return Answer::Refused(2);
-    }
-    work::call(table, memory, process, class, registers)
+    let formed = checks::well_formed(table);
+    steps::call(table, memory, formed, process, class, registers)
 }
 
 // A driver's event for a process's subscribe slot, with three arguments.
@@ -67,11 +71,10 @@ pub fn event(
 ) -> Answer
     ensures { λ r. ⌜ MakesAlone (own (process .0) (event (driver .0) slot argument0 argument1 argument2)) (now (table .entry)) (answerOf r) (now (table .exit)) ⌝ }
 {
-    if !checks::well_formed(table) {
-        return Answer::Refused(2);
-    }
-    work::event(
+    let formed = checks::well_formed(table);
+    steps::event(
         table,
+        formed,
         process,
         driver,
         slot,
@@ -85,10 +88,8 @@ pub fn event(
 pub fn resume(table: &mut [u32], process: Process) -> Answer
     ensures { λ r. ⌜ MakesAlone (own (process .0) resume) (now (table .entry)) (answerOf r) (now (table .exit)) ⌝ }
 {
-    if !checks::well_formed(table) {
-        return Answer::Refused(2);
-    }
-    work::resume(table, process)
+    let formed = checks::well_formed(table);
+    steps::resume(table, formed, process)
 }
 
 // A driver's bytes for a process's read-write buffer, from an offset in it on.
@@ -103,13 +104,8 @@ pub fn deposit(
 ) -> Answer
     ensures { λ r. ⌜ Makes (own (process .0) (deposit (driver .0) slot offset (now (bytes .entry)))) (now (table .entry)) (now (memory .entry)) (answerOf r) (now (table .entry)) (now (memory .exit)) ⌝ }
 {
-    if memory.len() != Image::BYTES {
-        return Answer::Refused(1);
-    }
-    if !checks::well_formed(table) {
-        return Answer::Refused(2);
-    }
-    work::deposit(table, memory, process, driver, slot, offset, bytes)
+    let formed = checks::well_formed(table);
+    steps::deposit(table, memory, formed, process, driver, slot, offset, bytes)
 }
 
 // The number of a fetch: 0 where it is accepted.
@@ -125,16 +121,18 @@ pub fn fetch_number(
 ) -> u32
     ensures { λ r. ⌜ r ≡ numberOf (tableStep (own (process .0) (fetch (driver .0) slot offset length)) (lent (now (table .entry)) (now (memory .entry)) (now (flash .entry))) .answer) ⌝ }
 {
-    if memory.len() != Image::BYTES {
-        return 1;
-    }
-    if flash.len() != Image::BYTES {
-        return 1;
-    }
-    if !checks::well_formed(table) {
-        return 2;
-    }
-    fetches::number(table, process, driver, slot, offset, length)
+    let formed = checks::well_formed(table);
+    steps::fetch_number(
+        table,
+        memory,
+        flash,
+        formed,
+        process,
+        driver,
+        slot,
+        offset,
+        length,
+    )
 }
 
 // Bytes of a process's read-only buffer, from an offset in it on: a part of the image that the buffer lies in.
@@ -150,27 +148,18 @@ pub fn fetch<'a>(
 ) -> &'a [u8]
     ensures { λ r. ⌜ IsPart (partOf (tableStep (own (process .0) (fetch (driver .0) slot offset length)) (lent (now (table .entry)) (now (memory .entry)) (now (flash .entry))) .answer)) (memory .entry) (flash .entry) r ⌝ }
 {
-    if memory.len() != Image::BYTES {
-        return &memory[..0];
-    }
-    if flash.len() != Image::BYTES {
-        return &memory[..0];
-    }
-    if !checks::well_formed(table) {
-        return &memory[..0];
-    }
-    let found = fetches::find(table, process, driver, slot, offset, length);
-    match found {
-        Found::Empty => &memory[..0],
-        Found::InMemory(at) => {
-            let end = at + length as usize;
-            &memory[at..end]
-        }
-        Found::InFlash(at) => {
-            let end = at + length as usize;
-            &flash[at..end]
-        }
-    }
+    let formed = checks::well_formed(table);
+    steps::fetch(
+        table,
+        memory,
+        flash,
+        formed,
+        process,
+        driver,
+        slot,
+        offset,
+        length,
+    )
 }
 
 // Where the part that a fetch hands back lies, for a host that is told of it in numbers.
@@ -186,25 +175,43 @@ pub fn fetch_place(
 ) -> Place
     ensures { λ r. ⌜ Lies (partOf (tableStep (own (process .0) (fetch (driver .0) slot offset length)) (lent (now (table .entry)) (now (memory .entry)) (now (flash .entry))) .answer)) r ⌝ }
 {
-    if memory.len() != Image::BYTES {
-        return fetches::nowhere();
-    }
-    if flash.len() != Image::BYTES {
-        return fetches::nowhere();
-    }
-    if !checks::well_formed(table) {
-        return fetches::nowhere();
-    }
-    let found = fetches::find(table, process, driver, slot, offset, length);
-    fetches::at(found, length)
+    let formed = checks::well_formed(table);
+    steps::fetch_place(
+        table,
+        memory,
+        flash,
+        formed,
+        process,
+        driver,
+        slot,
+        offset,
+        length,
+    )
 }
 
 // A shared driver's value: a signed peak.
 pub fn latch(table: &mut [u32], driver: Driver, peak: i32) -> Answer
     ensures { λ r. ⌜ MakesAlone (latch (driver .0) (wordOf peak)) (now (table .entry)) (answerOf r) (now (table .exit)) ⌝ }
 {
-    if !checks::well_formed(table) {
-        return Answer::Refused(2);
+    let formed = checks::well_formed(table);
+    steps::latch(table, formed, driver, peak)
+}
+
+// The run over a trace from a place on: 0 for all of it, or the place at which it has paused, with the table and the images as it left them.
+// Its lines go to the front of `out`. A buffer of 262,167 bytes has room for the longest line, so that with it each call comes further.
+pub fn replay(
+    trace: &[u8],
+    at: usize,
+    table: &mut [u32],
+    memory: &mut [u8],
+    flash: &[u8],
+    out: &mut [u8],
+) -> Progress
+    ensures { λ r. ⌜ Plays (now (trace .entry)) (lent (now (table .entry)) (now (memory .entry)) (now (flash .entry))) at (now (out .entry)) r (lent (now (table .exit)) (now (memory .exit)) (now (flash .entry))) (now (out .exit)) ⌝ }
+{
+    if at == 0 {
+        return replays::begin(trace, table, memory, flash, out);
     }
-    work::latch(table, driver, peak)
+    let formed = checks::well_formed(table);
+    replays::records(trace, at, table, memory, flash, formed, out, 0)
 }

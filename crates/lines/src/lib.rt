@@ -3,6 +3,7 @@ ghost use mathlib.Core.Path.{_≡_};
 ghost use mathlib.Core.List.{[], _∷_};
 ghost use Prim.Native.Nat.{_+_, _*_, _≤_};
 ghost use lib.ListN.{length};
+ghost use lib.Dec.{leb};
 ghost use Rattle.definition.specs.Lines.{decimal, spaced, line, letterF, lineOf, broken, tooLong};
 ghost use Rattle.types.specs.Meaning.{answerOf};
 ghost use Rattle.lines.specs.Puts.{Put, shortLine, partLine};
@@ -13,6 +14,11 @@ pub struct Line;
 
 impl Line {
     pub const ROOM: usize = 64;
+
+    // What the line of a part fits in: so much, and so much for each byte.
+    const PART_ROOM: usize = 23;
+
+    const BYTE_ROOM: usize = 4;
 
     const REGISTERS: u8 = b'A';
 
@@ -137,6 +143,16 @@ pub fn put_answer(out: &mut [u8], at: usize, answer: Answer) -> usize
         Answer::Exited(code) => put_line(out, at, Line::EXITED, &[code]),
         Answer::Restarted(code) => put_line(out, at, Line::RESTARTED, &[code]),
     }
+}
+
+// Whether the line of a part of so many bytes fits in a room. The product is not taken, so that nothing can wrap.
+pub fn part_fits(room: usize, length: usize) -> bool
+    ensures { λ r. ⌜ r ≡ leb (partLine length) room ⌝ }
+{
+    if room < Line::PART_ROOM {
+        return false;
+    }
+    (room - Line::PART_ROOM) / Line::BYTE_ROOM >= length
 }
 
 // The line of a part that a fetch handed back: its length, and its bytes.

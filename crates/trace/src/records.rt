@@ -39,9 +39,18 @@ struct Kind {
 const ANY: u32 = Number::MAX;
 
 impl Record {
-    pub const LAST_KIND: u32 = 5;
+    // The kinds, of which a latch is the last.
+    pub const CALL: u32 = 0;
+
+    pub const EVENT: u32 = 1;
+
+    pub const RESUME: u32 = 2;
 
     pub const DEPOSIT: u32 = 3;
+
+    pub const FETCH: u32 = 4;
+
+    pub const LAST_KIND: u32 = 5;
 
     pub const MAX_CLASS: u32 = 255;
 

@@ -1,5 +1,6 @@
 //! The proved layer for a Rust host. Each function is a step over what the host owns and lends: a table of [`TABLE_WORDS`] words and two
 //! images of [`IMAGE_BYTES`] bytes. Any slice may be lent: what does not fit is refused by number, and a refusal changes nothing.
+//! [`replay`] and [`replay_all`] make the steps of a whole trace.
 //!
 //! ```
 //! let mut table = vec![0; makvluria::TABLE_WORDS];
@@ -10,6 +11,8 @@
 
 pub mod raw;
 
+use std::io::{self, Write};
+
 /// How many words a table has, for every board.
 pub const TABLE_WORDS: usize = 4162;
 
@@ -18,6 +21,12 @@ pub const IMAGE_BYTES: usize = 65536;
 
 /// How many words an answer takes.
 pub const ANSWER_WORDS: usize = 6;
+
+/// How many words it takes to say how far a run came.
+pub const RUN_WORDS: usize = 3;
+
+/// Room for the longest line of a run, that of a fetch of a whole image.
+pub const LINES_BYTES: usize = 23 + 4 * IMAGE_BYTES;
 
 /// The image that a fetched part lies in.
 #[derive(Clone, Copy, Debug, PartialEq, Eq)]
@@ -106,6 +115,32 @@ impl Answer {
     }
 }
 
+/// How far a run over a trace came, and how many bytes of lines it wrote.
+#[derive(Clone, Copy, Debug, PartialEq, Eq)]
+pub enum Progress {
+    Ended {
+        written: usize,
+    },
+    /// There was no room for more: the run goes on from the place `at` of the trace. At place 0 nothing was begun.
+    Paused {
+        at: usize,
+        written: usize,
+    },
+}
+
+impl Progress {
+    /// Reads the three words of a run; `None` where they are no run's.
+    pub fn decode(words: [u64; RUN_WORDS]) -> Option<Progress> {
+        let [kind, at, written] = words;
+        let (at, written) = (at.try_into().ok()?, written.try_into().ok()?);
+        match (kind, at) {
+            (0, 0) => Some(Progress::Ended { written }),
+            (1, at) => Some(Progress::Paused { at, written }),
+            _ => None,
+        }
+    }
+}
+
 /// Lends six words to a step, and reads what it left there.
 fn answer(step: impl FnOnce(&mut [u32]) -> bool) -> Answer {
     let mut words = [0; ANSWER_WORDS];
@@ -181,4 +216,76 @@ pub fn fetch(
 /// A shared driver's value: a signed peak.
 pub fn latch(table: &mut [u32], driver: u32, peak: i32) -> Answer {
     answer(|out| raw::latch(table, driver, peak, out))
+}
+
+/// The run over a trace, from the place `at` on: 0 for all of it, from the board on; or the place at which it paused, with the table and
+/// the images as it left them. Whole lines go to the front of `lines`, and the rest of it stays.
+///
+/// It pauses where fewer than 64 bytes of room are left, or fewer than `23 + 4 * length` before a fetch's line. With [`LINES_BYTES`] in
+/// `lines` every call comes further; with fewer, a pause at `at` itself says that this room is too small.
+///
+/// ```
+/// use makvluria::{replay, Progress, IMAGE_BYTES, TABLE_WORDS};
+///
+/// let mut table = vec![0; TABLE_WORDS];
+/// let (mut memory, flash) = (vec![0; IMAGE_BYTES], vec![0; IMAGE_BYTES]);
+/// let mut lines = [0; 64];
+/// let trace = std::fs::read("../../examples/whole-case.trace")?;
+/// let progress = replay(&trace, 0, &mut table, &mut memory, &flash, &mut lines);
+/// // Fewer than 64 bytes are left after the first line.
+/// assert_eq!(progress, Progress::Paused { at: 37, written: 20 });
+/// assert_eq!(&lines[..20], b"A 129 536870912 0 0\n");
+/// let progress = replay(&trace, 37, &mut table, &mut memory, &flash, &mut lines);
+/// assert_eq!(progress, Progress::Paused { at: 44, written: 2 });
+/// # Ok::<(), std::io::Error>(())
+/// ```
+pub fn replay(
+    trace: &[u8],
+    at: usize,
+    table: &mut [u32],
+    memory: &mut [u8],
+    flash: &[u8],
+    lines: &mut [u8],
+) -> Progress {
+    let mut words = [0; RUN_WORDS];
+    let done = raw::replay(trace, at, table, memory, flash, lines, &mut words);
+    assert!(done, "three words are room enough");
+    Progress::decode(words).expect("the layer tells no other words")
+}
+
+/// The run over a whole trace: its lines are written to `out` as they come.
+///
+/// # Errors
+///
+/// Where `out` gives one. The table and the images are then as the lines that were made have left them.
+///
+/// ```
+/// use makvluria::{replay_all, IMAGE_BYTES, TABLE_WORDS};
+///
+/// let mut table = vec![0; TABLE_WORDS];
+/// let (mut memory, flash) = (vec![0; IMAGE_BYTES], vec![0; IMAGE_BYTES]);
+/// let mut lines = Vec::new();
+/// let trace = std::fs::read("../../examples/whole-case.trace")?;
+/// replay_all(&trace, &mut table, &mut memory, &flash, &mut lines)?;
+/// assert_eq!(lines, b"A 129 536870912 0 0\nW\nW\n");
+/// # Ok::<(), std::io::Error>(())
+/// ```
+pub fn replay_all(
+    trace: &[u8],
+    table: &mut [u32],
+    memory: &mut [u8],
+    flash: &[u8],
+    out: &mut impl Write,
+) -> io::Result<()> {
+    let mut lines = vec![0; LINES_BYTES];
+    let mut at = 0;
+    loop {
+        match replay(trace, at, table, memory, flash, &mut lines) {
+            Progress::Ended { written } => return out.write_all(&lines[..written]),
+            Progress::Paused { at: next, written } => {
+                out.write_all(&lines[..written])?;
+                at = next;
+            }
+        }
+    }
 }

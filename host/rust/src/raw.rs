@@ -1,5 +1,5 @@
-//! The exports as they are: a step writes its answer into the first six words of `out` and gives true; where `out` is shorter it does
-//! nothing and gives false.
+//! The exports as they are: a step writes its answer into the first six words of `out`, a run how far it came into the first three, and
+//! it gives true; where `out` is shorter it does nothing and gives false.
 //!
 //! Every call here is safe: the library is proved for any numbers and slices, Rust's slices are valid, and those that are lent to be
 //! written are borrowed apart from all others.
@@ -85,6 +85,21 @@ mod exports {
             driver: u32,
             peak: i32,
             out: *mut u32,
+            out_words: usize,
+        ) -> bool;
+        pub fn mk_replay(
+            trace: *const u8,
+            trace_bytes: usize,
+            at: usize,
+            table: *mut u32,
+            words: usize,
+            memory: *mut u8,
+            memory_bytes: usize,
+            flash: *const u8,
+            flash_bytes: usize,
+            lines: *mut u8,
+            lines_bytes: usize,
+            out: *mut u64,
             out_words: usize,
         ) -> bool;
     }
@@ -228,6 +243,34 @@ pub fn latch(table: &mut [u32], driver: u32, peak: i32, out: &mut [u32]) -> bool
             table.len(),
             driver,
             peak,
+            out.as_mut_ptr(),
+            out.len(),
+        )
+    }
+}
+
+pub fn replay(
+    trace: &[u8],
+    at: usize,
+    table: &mut [u32],
+    memory: &mut [u8],
+    flash: &[u8],
+    lines: &mut [u8],
+    out: &mut [u64],
+) -> bool {
+    unsafe {
+        exports::mk_replay(
+            trace.as_ptr(),
+            trace.len(),
+            at,
+            table.as_mut_ptr(),
+            table.len(),
+            memory.as_mut_ptr(),
+            memory.len(),
+            flash.as_ptr(),
+            flash.len(),
+            lines.as_mut_ptr(),
+            lines.len(),
             out.as_mut_ptr(),
             out.len(),
         )

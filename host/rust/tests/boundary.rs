@@ -1,8 +1,10 @@
 //! What a host may lend: anything. Malformed tables, images of a wrong length, short slices for the answer, and accepted steps of each kind.
 
+mod run;
+
 use makvluria::{
-    call, deposit, event, fetch, is_well_formed, latch, raw, resume, start, Answer, Image,
-    IMAGE_BYTES, TABLE_WORDS,
+    call, deposit, event, fetch, is_well_formed, latch, raw, replay, replay_all, resume, start,
+    Answer, Image, Progress, IMAGE_BYTES, TABLE_WORDS,
 };
 
 /// The board of document 01's cases: two processes, an unshared driver 1 and a shared driver 0x90000.
@@ -57,6 +59,17 @@ impl Host {
 
     fn call(&mut self, process: u32, class: u8, registers: [u32; 4]) -> Answer {
         call(&mut self.table, &mut self.memory, process, class, registers)
+    }
+
+    fn replay(&mut self, trace: &[u8], at: usize, lines: &mut [u8]) -> Progress {
+        replay(trace, at, &mut self.table, &mut self.memory, &self.flash, lines)
+    }
+
+    /// The lines of a whole trace.
+    fn run(&mut self, trace: &[u8]) -> String {
+        let mut lines = Vec::new();
+        replay_all(trace, &mut self.table, &mut self.memory, &self.flash, &mut lines).unwrap();
+        String::from_utf8(lines).unwrap()
     }
 
     fn registers(&mut self, class: u8, registers: [u32; 4], answer: [u32; 4]) {
