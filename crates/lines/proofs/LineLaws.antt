@@ -1,20 +1,20 @@
 -- Laws of lines as they are written: a byte, a number digit by digit, values one after another, and whole lines.
-use Prim.Native.Nat.{ℕ, zero, suc, _+_, _*_, _/_, _%_, _^_, _≤_, _<_}
-use mathlib.Core.Path.{_≡_, refl, sym, ap, subst, _∙_}
+use Prim.Native.Nat.{ℕ, zero, suc, _+_, _-_, _*_, _/_, _%_, _^_, _≤_, _<_}
+use mathlib.Core.Path.{_≡_, refl, sym, ap, ap₂, subst, _∙_}
 use mathlib.Core.List.{List, [], _∷_, _++_, append-nil, append-assoc}
 use native.Mathlib.Nat.{pow-suc, suc-mul}
 use native.Mathlib.Omega.{arith}
 use native.Mathlib.Numerals.{add-one}
 use lib.Dec.{ltb}
 use lib.ListN.{length, getD, take, drop, set, length-append}
-use lib.Seq.{set-split, append-snoc, take-suc, take-all}
+use lib.Seq.{set-split, set-at, append-snoc, take-suc, take-all, length-take-le}
 use borrow.Author.Tests.{lt-ltb, le-ltb}
 use Rattle.definition.specs.Tests.{if_then_else_}
 use Rattle.definition.specs.Lines.{digits, decimal, spaced, line, lineOf}
 use Rattle.types.specs.declared.Answer.{Answer}
 use Rattle.types.specs.Meaning.{answerOf}
 use Rattle.words.specs.Splice.{splice}
-use Rattle.lines.specs.Puts.{Put}
+use Rattle.lines.specs.Puts.{Put, lastDigits}
 use Rattle.lines.specs.PutLaws.{put-none, put-then}
 
 pub put-one : (byte at : ℕ) (before : List ℕ) → at < length before → Put (byte ∷ []) at before (set before at byte) (at + 1)
@@ -53,13 +53,87 @@ decimal-some x = simp length-append (omega arith)
 pub decimal-length-more : (x : ℕ) → 10 ≤ x → x < 2 ^ 64 → length (decimal x) ≡ length (decimal (x / 10)) + 1
 decimal-length-more x h b = ap length (decimal-more x h b) ∙ simp length-append
 
-module _ {x at : ℕ} {before after : List ℕ} {last : ℕ} where
-  pub put-digit : x < 10 → Put ((48 + x % 10) ∷ []) at before after last → Put (decimal x) at before after last
-  put-digit h p = subst (λ l. Put l at before after last) (sym (decimal-one x h)) p
+pub decimal-first : (x : ℕ) → x < 10 → decimal x ≡ lastDigits 1 x
+unfolding lastDigits
+decimal-first x h = decimal-one x h
 
-  pub put-digits : {middle : List ℕ} {next : ℕ} → 10 ≤ x → x < 2 ^ 64 → at ≤ length before
-      → Put (decimal (x / 10)) at before middle next → Put ((48 + x % 10) ∷ []) next middle after last → Put (decimal x) at before after last
-  put-digits h b here p q = subst (λ l. Put l at before after last) (sym (decimal-more x h b)) (put-then here p q)
+-- a number has as many digits as the least power of ten above it says
+pub decimal-last : (k x : ℕ) → 10 ^ k ≤ x → x < 10 ^ suc k → x < 2 ^ 64 → decimal x ≡ lastDigits (suc k) x
+unfolding lastDigits
+decimal-last zero x h b f = let z : x < 10 = b in decimal-one x z
+decimal-last (suc k) x h b f =
+    let low : 10 ^ k * 10 ≤ x = subst (λ m. m ≤ x) (pow-suc 10 k) h in
+    let high : x < 10 ^ suc k * 10 = subst (λ m. x < m) (pow-suc 10 (suc k)) b in
+    let more : 1 ≤ 10 ^ k = some-power k in
+    decimal-more x (omega arith) f ∙ ap (λ l. l ++ ((48 + x % 10) ∷ [])) (decimal-last k (x / 10) (omega arith) (omega arith) (omega arith))
+  where
+    some-power : (k : ℕ) → 1 ≤ 10 ^ k
+    some-power zero = omega arith
+    some-power (suc k) = let e = pow-suc 10 k in omega (arith, some-power k)
+
+pub last-length : (k x : ℕ) → length (lastDigits k x) ≡ k
+unfolding lastDigits
+last-length zero x = refl
+last-length (suc k) x = simp length-append (omega (arith, last-length k (x / 10)))
+
+-- digits are put from the last to the first: those from place i on are there, and the others are those of what is left of the number
+pub record Tail (l : List ℕ) (at end : ℕ) (before after : List ℕ) (i rest : ℕ) : Type 0 where
+  pub tail : List ℕ
+  pub left : after ≡ splice i tail before
+  pub all : l ≡ lastDigits (i - at) rest ++ tail
+  pub far : i + length tail ≡ end
+  pub low : at ≤ i
+
+pub tail-none : (k n at : ℕ) (before : List ℕ) → Tail (lastDigits k n) at (at + k) before before (at + k) n
+tail-none k n at before =
+    let z : at + k - at ≡ k = omega arith in
+    record {
+      tail = [];
+      left = put-none (at + k) before .left;
+      all = sym (append-nil (lastDigits (at + k - at) n) ∙ ap (λ k. lastDigits k n) z);
+      far = omega arith;
+      low = omega arith;
+    }
+
+set-splice : (i d : ℕ) (t before : List ℕ) → i < length before → set (splice (i + 1) t before) i d ≡ splice i (d ∷ t) before
+unfolding splice
+set-splice i d t before h =
+    let e : take (i + 1) before ≡ take i before ++ (getD before i 0 ∷ []) = ap (λ n. take n before) (add-one i) ∙ take-suc before i 0 h in
+    let n : i + 1 + length t ≡ i + suc (length t) = omega arith in
+    ap₂ (λ h k. set ((h ++ t) ++ drop k before) i d) e n
+    ∙ ap (λ l. set l i d) (append-assoc (take i before ++ (getD before i 0 ∷ [])) t (drop (i + suc (length t)) before) ∙ append-assoc (take i before) (getD before i 0 ∷ []) (t ++ drop (i + suc (length t)) before))
+    ∙ set-at (take i before) (getD before i 0) (t ++ drop (i + suc (length t)) before) d i (length-take-le i before (omega arith))
+    ∙ sym (append-assoc (take i before) (d ∷ t) (drop (i + suc (length t)) before))
+
+module _ {l : List ℕ} {at end : ℕ} {before after : List ℕ} {i rest : ℕ} (x : Tail l at end before after i rest) where
+  pub tail-more : at < i → i ≤ length before → Tail l at end before (set after (i - 1) (48 + rest % 10)) (i - 1) (rest / 10)
+  unfolding lastDigits
+  tail-more h fits =
+      let k : i ≡ i - 1 + 1 = omega arith in
+      let m : i - at ≡ suc (i - 1 - at) = omega arith in
+      record {
+        tail = (48 + rest % 10) ∷ x .tail;
+        left = ap (λ a. set a (i - 1) (48 + rest % 10)) (x .left ∙ ap (λ k. splice k (x .tail) before) k) ∙ set-splice (i - 1) (48 + rest % 10) (x .tail) before (omega arith);
+        all = x .all ∙ ap (λ k. lastDigits k rest ++ x .tail) m ∙ append-assoc (lastDigits (i - 1 - at) (rest / 10)) ((48 + rest % 10) ∷ []) (x .tail);
+        far = omega (arith, x .far);
+        low = omega arith;
+      }
+
+  -- all of them are there
+  pub tail-all : i ≤ at → Put l at before after end
+  unfolding lastDigits
+  tail-all h =
+      let z : i ≡ at = omega (arith, x .low) in
+      let none : i - at ≡ 0 = omega arith in
+      let e : l ≡ x .tail = x .all ∙ ap (λ k. lastDigits k rest ++ x .tail) none in
+      record {
+        left = x .left ∙ ap₂ (λ i t. splice i t before) z (sym e);
+        place = sym (x .far) ∙ ap₂ (λ i t. i + length t) z (sym e);
+      }
+
+pub put-digits : {x at : ℕ} {before middle after : List ℕ} {next last : ℕ} → 10 ≤ x → x < 2 ^ 64 → at ≤ length before
+    → Put (decimal (x / 10)) at before middle next → Put ((48 + x % 10) ∷ []) next middle after last → Put (decimal x) at before after last
+put-digits {x} {at} {before} {middle} {after} {next} {last} h b here p q = subst (λ l. Put l at before after last) (sym (decimal-more x h b)) (put-then here p q)
 
 -- values, each after a space
 

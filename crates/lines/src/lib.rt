@@ -6,7 +6,7 @@ ghost use lib.ListN.{length};
 ghost use lib.Dec.{leb};
 ghost use Rattle.definition.specs.Lines.{decimal, spaced, line, letterF, lineOf, broken, tooLong};
 ghost use Rattle.types.specs.Meaning.{answerOf};
-ghost use Rattle.lines.specs.Puts.{Put, shortLine, partLine};
+ghost use Rattle.lines.specs.Puts.{Put, lastDigits, shortLine, partLine};
 use types::Answer;
 
 // The bytes of a line: the letter that it begins with, the space before each value, the digits, and the end. `ROOM` is what any line but a part's fits in.
@@ -67,17 +67,66 @@ fn put_byte(out: &mut [u8], at: usize, byte: u8) -> usize
     at + 1
 }
 
-// A number: the digits of its tenth, if it has more than one, and its last one.
+// How many digits a 32-bit number has.
+fn width_of(n: u32) -> usize
+    ensures { λ r. ⌜ decimal n ≡ lastDigits r n ⌝ }
+{
+    if n < 10 {
+        return 1;
+    }
+    if n < 100 {
+        return 2;
+    }
+    if n < 1_000 {
+        return 3;
+    }
+    if n < 10_000 {
+        return 4;
+    }
+    if n < 100_000 {
+        return 5;
+    }
+    if n < 1_000_000 {
+        return 6;
+    }
+    if n < 10_000_000 {
+        return 7;
+    }
+    if n < 100_000_000 {
+        return 8;
+    }
+    if n < 1_000_000_000 {
+        return 9;
+    }
+    10
+}
+
+// A 32-bit number, from its last digit to its first.
+fn put_word(out: &mut [u8], at: usize, n: u32) -> usize
+    requires { ⌜ at + length (decimal n) ≤ length (now out) ⌝ }
+    ensures { λ r. ⌜ Put (decimal n) at (now (out .entry)) (now (out .exit)) r ⌝ }
+{
+    let end = at + width_of(n);
+    let mut left = n;
+    let mut i = end;
+    while i > at {
+        i -= 1;
+        out[i] = Line::ZERO + (left % 10) as u8;
+        left /= 10;
+    }
+    end
+}
+
+// A number: the digits of its tenth, where it has more than 32 bits, and its last one.
 fn put_decimal(out: &mut [u8], at: usize, n: u64) -> usize
     requires { ⌜ at + length (decimal n) ≤ length (now out) ⌝ }
     ensures { λ r. ⌜ Put (decimal n) at (now (out .entry)) (now (out .exit)) r ⌝ }
 {
-    let last = Line::ZERO + (n % 10) as u8;
-    if n < 10 {
-        return put_byte(out, at, last);
+    if n <= 0xFFFF_FFFF {
+        return put_word(out, at, n as u32);
     }
     let next = put_decimal(out, at, n / 10);
-    put_byte(out, next, last)
+    put_byte(out, next, Line::ZERO + (n % 10) as u8)
 }
 
 // Each value after a space: eleven bytes at most.
@@ -89,7 +138,7 @@ fn put_values(out: &mut [u8], at: usize, values: &[u32]) -> usize
     let mut next = at;
     while i < values.len() {
         next = put_byte(out, next, Line::SPACE);
-        next = put_decimal(out, next, values[i] as u64);
+        next = put_word(out, next, values[i]);
         i += 1;
     }
     next
@@ -104,7 +153,7 @@ fn put_bytes(out: &mut [u8], at: usize, bytes: &[u8]) -> usize
     let mut next = at;
     while i < bytes.len() {
         next = put_byte(out, next, Line::SPACE);
-        next = put_decimal(out, next, bytes[i] as u64);
+        next = put_word(out, next, bytes[i] as u32);
         i += 1;
     }
     next

@@ -1,13 +1,16 @@
 -- Numbers, group by group: a turn of the loop reads the byte at its place, and goes on by what that byte tells.
-use mathlib.Core.Path.{_≡_, refl, sym}
+use mathlib.Core.Path.{_≡_, refl, sym, ap, _∙_}
+use mathlib.Core.Bool.{true, _||_}
 use mathlib.Core.List.{List}
 use Prim.Native.Nat.{ℕ, zero, suc, _+_, _-_, _*_, _≤_, _<_}
 use native.Mathlib.Nat.{mul-le-mul-right}
 use native.Mathlib.Omega.{arith}
+use lib.Dec.{ltb, leb}
 use lib.ListN.{length, getD}
-use borrow.Author.Tests.{lt-ltb, le-ltb}
+use borrow.Author.Tests.{lt-ltb, le-ltb, le-leb, lt-leb}
 use Rattle.definition.specs.Tests.{if_then_else_}
-use Rattle.definition.specs.Trace.{Format, next, group, groups, readAt, cut, spoiled}
+use Rattle.definition.specs.Trace.{Format, done, broken, next, maxGroups, group, groups, number, readAt, found, cut, spoiled}
+use Rattle.theorems.specs.Facts.{or-right}
 use Rattle.trace.specs.Meaning.{groupOf}
 use Rattle.trace.specs.declared.numbers.Group.{Group}
 
@@ -41,3 +44,30 @@ pub turn-none : (n most v w i : ℕ) (s : List ℕ) → n ≤ 0 → readAt (grou
 unfolding groups readAt
 turn-none zero most v w i s h = refl
 turn-none (suc n) most v w i s h = absurd (omega arith)
+
+-- ---- a number of one group
+
+one-group : (more : ℕ → ℕ → Format ℕ) (most b : ℕ) → b < 128 → group more most 0 1 b ≡ (if leb b most then done b else broken)
+unfolding group if_then_else_
+one-group more most b h =
+    let one : 0 + b * 1 ≡ b = omega arith in
+    let short : (ltb 0 b || leb 1 1) ≡ true = or-right (ltb 0 b) (leb 1 1) refl in
+    rw (lt-ltb b 128 h, short, one)
+
+module _ (most : ℕ) (s : List ℕ) (at : ℕ) where
+  pub number-cut : length s ≤ at → readAt (number most) s at ≡ cut
+  unfolding number
+  number-cut h = turn-cut maxGroups most 0 1 at s (omega arith) h
+
+  module _ (h : at < length s) (small : getD s at 0 < 128) where
+    first : readAt (number most) s at ≡ readAt (if leb (getD s at 0) most then done (getD s at 0) else broken) s (at + 1)
+    unfolding number groups readAt if_then_else_
+    first = rw (lt-ltb at (length s) h) (ap (λ f. readAt f s (at + 1)) (one-group (groups 4 most) most (getD s at 0) small))
+
+    pub number-one : getD s at 0 ≤ most → readAt (number most) s at ≡ found (getD s at 0) (at + 1)
+    unfolding readAt if_then_else_
+    number-one k = first ∙ rw (le-leb (getD s at 0) most k)
+
+    pub number-above : most < getD s at 0 → readAt (number most) s at ≡ spoiled
+    unfolding readAt if_then_else_
+    number-above k = first ∙ rw (lt-leb (getD s at 0) most k)

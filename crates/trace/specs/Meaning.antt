@@ -4,13 +4,14 @@ use mathlib.Core.List.{List, [], _∷_, _++_}
 use Prim.Native.Nat.{ℕ, _+_, _-_, _≤_}
 use lib.ListN.{length, take, drop, getD}
 use Rattle.definition.specs.Limits.{maxBoardWords}
-use Rattle.definition.specs.Trace.{Format, done, broken, Found, found, spoiled, cut, Record as Told}
+use Rattle.definition.specs.Trace.{Format, done, broken, kinds, Found, found, spoiled, cut, Record as Told}
 use Rattle.trace.specs.declared.numbers.Group.{Group}
 use Rattle.trace.specs.declared.numbers.Group.the-variants as G
 use Rattle.trace.specs.declared.numbers.Number.{Number}
 use Rattle.trace.specs.declared.numbers.Number.the-variants as N
 use Rattle.trace.specs.declared.records.Place.{Place}
 use Rattle.trace.specs.declared.records.Place.the-variants as P
+use Rattle.trace.specs.declared.records.Kind.{Kind}
 use Rattle.trace.specs.declared.records.Fields.{Fields}
 use Rattle.trace.specs.declared.records.Record.{Record}
 use Rattle.trace.specs.declared.records.Read.{Read}
@@ -32,6 +33,12 @@ abbrev pub numberFound : Found ℕ → Number
 numberFound (found value after) = N.Value value after
 numberFound spoiled = N.Broken
 numberFound cut = N.Cut
+
+-- a row has the limits of its kind
+pub record HasLimits (kind : ℕ) (r : Kind) : Type 0 where
+  pub limits : take (r .fields) (r .limits) ≡ getD kinds kind []
+  pub within : r .fields ≤ length (r .limits)
+  pub count : r .fields ≡ length (getD kinds kind [])
 
 -- of what was lent, all from place n on is as it was
 abbrev pub keptFrom : ℕ → List ℕ → List ℕ → Type 0

@@ -53,8 +53,8 @@ fn group_of(most: u32, value: u64, weight: u64, byte: u8) -> Group
     Group::More(part, next)
 }
 
-// The number at a place, which is at most `most`.
-pub fn number_at(trace: &[u8], at: usize, most: u32) -> Number
+// The number at a place, which is at most `most`, group by group.
+fn groups_at(trace: &[u8], at: usize, most: u32) -> Number
     ensures { λ r. ⌜ r ≡ numberFound (readAt (number most) (now (trace .entry)) at) ⌝ }
 {
     let mut left = Number::GROUPS;
@@ -77,4 +77,21 @@ pub fn number_at(trace: &[u8], at: usize, most: u32) -> Number
         left -= 1;
     }
     Number::Broken
+}
+
+// The same; most numbers have one group, whose byte is the number.
+pub fn number_at(trace: &[u8], at: usize, most: u32) -> Number
+    ensures { λ r. ⌜ r ≡ numberFound (readAt (number most) (now (trace .entry)) at) ⌝ }
+{
+    if at >= trace.len() {
+        return Number::Cut;
+    }
+    let byte = trace[at] as u32;
+    if byte >= 128 {
+        return groups_at(trace, at, most);
+    }
+    if byte > most {
+        return Number::Broken;
+    }
+    Number::Value(byte, at + 1)
 }

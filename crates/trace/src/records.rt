@@ -5,7 +5,7 @@ ghost use Prim.Native.Nat.{ℕ, _≤_};
 ghost use lib.ListN.{length, getD};
 ghost use Rattle.definition.specs.Limits.{maxBoardWords};
 ghost use Rattle.definition.specs.Trace.{fields, board, kinds, lastKind, bytesAfter, recordOf, oneRecord, readAt};
-ghost use Rattle.trace.specs.Meaning.{Filled, Boarded, recordFound};
+ghost use Rattle.trace.specs.Meaning.{HasLimits, Filled, Boarded, recordFound};
 use super::numbers::Number;
 use super::numbers::number_at;
 use types::Driver;
@@ -58,34 +58,6 @@ impl Record {
 
     // The most fields that a kind has.
     pub const FIELDS: usize = 6;
-
-    // The kinds in order: call, event, resume, deposit, fetch, latch. A row is filled up with zeros.
-    const KINDS: [Kind; Record::LAST_KIND as usize + 1] = [
-        Kind {
-            fields: 6,
-            limits: [ANY, Record::MAX_CLASS, ANY, ANY, ANY, ANY],
-        },
-        Kind {
-            fields: 6,
-            limits: [ANY, ANY, ANY, ANY, ANY, ANY],
-        },
-        Kind {
-            fields: 1,
-            limits: [ANY, 0, 0, 0, 0, 0],
-        },
-        Kind {
-            fields: 5,
-            limits: [ANY, ANY, ANY, ANY, Record::MAX_DEPOSIT, 0],
-        },
-        Kind {
-            fields: 5,
-            limits: [ANY, ANY, ANY, ANY, ANY, 0],
-        },
-        Kind {
-            fields: 2,
-            limits: [ANY, ANY, 0, 0, 0, 0],
-        },
-    ];
 }
 
 // The board of a trace.
@@ -129,13 +101,53 @@ fn fields_at(trace: &[u8], at: usize, limits: &[u32], out: &mut [u32]) -> Place
     Place::At(place)
 }
 
+// How many fields a kind has, and their limits, filled up with zeros.
+fn row_of(kind: u32) -> Kind
+    requires { ⌜ kind ≤ lastKind ⌝ }
+    ensures { λ r. ⌜ HasLimits kind r ⌝ }
+{
+    if kind == Record::CALL {
+        return Kind {
+            fields: 6,
+            limits: [ANY, Record::MAX_CLASS, ANY, ANY, ANY, ANY],
+        };
+    }
+    if kind == Record::EVENT {
+        return Kind {
+            fields: 6,
+            limits: [ANY, ANY, ANY, ANY, ANY, ANY],
+        };
+    }
+    if kind == Record::RESUME {
+        return Kind {
+            fields: 1,
+            limits: [ANY, 0, 0, 0, 0, 0],
+        };
+    }
+    if kind == Record::DEPOSIT {
+        return Kind {
+            fields: 5,
+            limits: [ANY, ANY, ANY, ANY, Record::MAX_DEPOSIT, 0],
+        };
+    }
+    if kind == Record::FETCH {
+        return Kind {
+            fields: 5,
+            limits: [ANY, ANY, ANY, ANY, ANY, 0],
+        };
+    }
+    Kind {
+        fields: 2,
+        limits: [ANY, ANY, 0, 0, 0, 0],
+    }
+}
+
 // The fields of a kind.
-fn kind_fields_at(trace: &[u8], at: usize, kind: usize, out: &mut [u32]) -> Place
+fn kind_fields_at(trace: &[u8], at: usize, kind: u32, out: &mut [u32]) -> Place
     requires { ⌜ (kind ≤ lastKind) × (6 ≤ length (now out)) ⌝ }
     ensures { λ r. ⌜ Filled (length (getD kinds kind [])) (readAt (fields [] (getD kinds kind [])) (now (trace .entry)) at) (now (out .entry)) r (now (out .exit)) ⌝ }
 {
-    let kinds = Record::KINDS;
-    let row = kinds[kind];
+    let row = row_of(kind);
     let limits = row.limits;
     let n = row.fields;
     fields_at(trace, at, &limits[..n], out)
@@ -158,7 +170,7 @@ fn after_kind(trace: &[u8], at: usize, kind: u32) -> Read
     ensures { λ r. ⌜ r ≡ recordFound (readAt (recordOf kind) (now (trace .entry)) at) ⌝ }
 {
     let mut v = [0u32; Record::FIELDS];
-    match kind_fields_at(trace, at, kind as usize, &mut v) {
+    match kind_fields_at(trace, at, kind, &mut v) {
         Place::Broken => Read::Broken,
         Place::Cut => Read::Cut,
         Place::At(from) => {

@@ -257,7 +257,7 @@ pub fn replay(
 ///
 /// # Errors
 ///
-/// Where `out` gives one. The table and the images are then as the lines that were made have left them.
+/// Where `out` gives one. The table and the memory are then as the steps made so far have left them.
 ///
 /// ```
 /// use makvluria::{replay_all, IMAGE_BYTES, TABLE_WORDS};
@@ -284,6 +284,7 @@ pub fn replay_all(
             Progress::Ended { written } => return out.write_all(&lines[..written]),
             Progress::Paused { at: next, written } => {
                 out.write_all(&lines[..written])?;
+                assert!(at < next, "there was room for any line");
                 at = next;
             }
         }

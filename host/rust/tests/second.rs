@@ -1,13 +1,13 @@
 //! The proved layer beside the second program, on generated traces: the lines have to be the same, byte for byte. They are asked of the
-//! library in two ways, step by step on records that the second program's reader reads, and in a run over the trace, which reads it too;
-//! and of the proved program on a sample.
+//! library step by step, on records that the second program's reader reads, and in a run over the trace, which reads it too, in one piece
+//! and with a pause after almost every line; and of the proved program on a sample.
 
 use std::io::{self, ErrorKind, Write};
 use std::path::{Path, PathBuf};
 use std::process::{Command, Stdio};
 use std::{env, fs, thread};
 
-use makvluria::{Answer, IMAGE_BYTES, TABLE_WORDS};
+use makvluria::{Answer, Progress, IMAGE_BYTES, LINES_BYTES, TABLE_WORDS};
 use second::board::{DriverNumber, ProcessIndex};
 use second::generate::corpus::{every_cut, every_one_byte_change, small_corpus, WHOLE_CASE};
 use second::generate::generate_mixed;
@@ -32,9 +32,10 @@ fn seed() -> u64 {
     env::var("MAKVLURIA_SEED").map_or(SEED, |seed| seed.parse().unwrap())
 }
 
-/// Says it also where the test's output is captured.
+/// Says it also where the tests' output is captured, as that of `eprintln!` is.
 fn report(line: &str) {
-    writeln!(io::stderr(), "{line}").unwrap();
+    let mut stderr = io::stderr();
+    writeln!(stderr, "{line}").unwrap();
 }
 
 /// What a host owns.
@@ -151,16 +152,41 @@ fn by_run(trace: &[u8]) -> (Vec<u8>, Host) {
     (out, host)
 }
 
+/// The same, by a run in as little room as its lines can do with.
+fn by_pauses(trace: &[u8]) -> (Vec<u8>, Host) {
+    const LEAST: usize = 64;
+    let mut host = Host::new();
+    let (mut out, mut buffer) = (Vec::new(), vec![0; LINES_BYTES]);
+    let (mut at, mut room) = (0, LEAST);
+    let Host { table, memory, flash } = &mut host;
+    loop {
+        let lines = &mut buffer[..room];
+        match makvluria::replay(trace, at, table, memory, flash, lines) {
+            Progress::Ended { written } => {
+                out.extend_from_slice(&lines[..written]);
+                return (out, host);
+            }
+            Progress::Paused { at: next, written } => {
+                out.extend_from_slice(&lines[..written]);
+                // Where it came no further, the line of a fetch is longer.
+                room = if at < next { LEAST } else { LINES_BYTES.min(2 * room) };
+                at = next;
+            }
+        }
+    }
+}
+
 /// The same lines, by the program.
 fn by_program(program: &Path, trace: &[u8]) -> Vec<u8> {
     let mut command = Command::new(program);
     let mut child = command.stdin(Stdio::piped()).stdout(Stdio::piped()).spawn().unwrap();
     let mut input = child.stdin.take().unwrap();
     thread::scope(|scope| {
-        scope.spawn(move || match input.write_all(trace) {
-            // It does not read to the end of a trace that is too long.
-            Err(error) => assert_eq!(error.kind(), ErrorKind::BrokenPipe),
-            Ok(()) => {}
+        scope.spawn(move || {
+            // The program does not read to the end of a trace that is too long.
+            if let Err(error) = input.write_all(trace) {
+                assert_eq!(error.kind(), ErrorKind::BrokenPipe);
+            }
         });
         let output = child.wait_with_output().unwrap();
         assert!(output.status.success(), "{}", output.status);
@@ -203,12 +229,13 @@ fn compare(name: &str, trace: &[u8]) -> usize {
     if lines != expected {
         differs(name, "by steps", trace, &lines);
     }
-    let (lines, run) = by_run(trace);
-    if lines != expected {
-        differs(name, "by the run", trace, &lines);
-    }
-    if run != stepped {
-        differs(name, "in what the run and the steps leave", trace, &lines);
+    for (how, (lines, host)) in [("in one run", by_run(trace)), ("with pauses", by_pauses(trace))] {
+        if lines != expected {
+            differs(name, how, trace, &lines);
+        }
+        if host != stepped {
+            differs(name, &format!("in what it leaves {how}"), trace, &lines);
+        }
     }
     count_lines(&expected)
 }
@@ -271,7 +298,7 @@ fn generated_traces() {
         .map(|index| compare(&format!("{seed}-{index}"), &generate_mixed(seed, index)))
         .sum();
     report(&format!(
-        "seed {seed}: {TRACES} traces, {lines} lines, all equal by steps and by the run"
+        "seed {seed}: {TRACES} traces, {lines} lines, all equal by steps, in one run and with pauses"
     ));
 }
 
@@ -288,7 +315,9 @@ fn every_change_and_cut_of_small_traces() {
             count += 1;
         }
     }
-    report(&format!("{count} changed and cut traces, all equal by steps and by the run"));
+    report(&format!(
+        "{count} changed and cut traces, all equal by steps, in one run and with pauses"
+    ));
 }
 
 #[test]
