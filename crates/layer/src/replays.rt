@@ -4,7 +4,7 @@ ghost use mathlib.Core.Path.{_≡_};
 ghost use mathlib.Core.List.{List};
 ghost use Prim.Native.Nat.{ℕ, _+_, _-_, _≤_, _<_};
 ghost use lib.ListN.{length, take, drop};
-ghost use Rattle.definition.specs.Decide.{fetch};
+ghost use Rattle.definition.specs.Decide.{call, fetch};
 ghost use Rattle.definition.specs.World.{own};
 ghost use Rattle.definition.specs.Image.{wellFormed};
 ghost use Rattle.definition.specs.Trace.{found, maxClass, lastKind};
@@ -43,6 +43,21 @@ enum Room {
     Short,
 }
 
+// The call of a record.
+fn call(table: &mut [u32], memory: &mut [u8], formed: bool, fields: Fields) -> Answer
+    requires { ⌜ (formed ≡ wellFormed (now table)) × (fields .1 ≤ maxClass) ⌝ }
+    ensures { λ r. ⌜ Makes (own (fields .0) (call (fields .1) (fields .2) (fields .3) (fields .4) (fields .5))) (now (table .entry)) (now (memory .entry)) (answerOf r) (now (table .exit)) (now (memory .exit)) ⌝ }
+{
+    let class = fields.1 as u8;
+    let registers = Registers {
+        r0: fields.2,
+        r1: fields.3,
+        r2: fields.4,
+        r3: fields.5,
+    };
+    steps::call(table, memory, formed, Process(fields.0), class, registers)
+}
+
 // The step of a record, of any kind but a fetch.
 fn make(
     table: &mut [u32],
@@ -55,17 +70,10 @@ fn make(
     requires { ⌜ (formed ≡ wellFormed (now table)) × (kind ≤ lastKind) × (kind ≡ 4 → ⊥) × (kind ≡ 0 → fields .1 ≤ maxClass) ⌝ }
     ensures { λ r. ⌜ Makes (stepBy kind fields (now (bytes .entry))) (now (table .entry)) (now (memory .entry)) (answerOf r) (now (table .exit)) (now (memory .exit)) ⌝ }
 {
-    let process = Process(fields.0);
     if kind == Record::CALL {
-        let registers = Registers {
-            r0: fields.2,
-            r1: fields.3,
-            r2: fields.4,
-            r3: fields.5,
-        };
-        let class = fields.1 as u8;
-        return steps::call(table, memory, formed, process, class, registers);
+        return call(table, memory, formed, fields);
     }
+    let process = Process(fields.0);
     let driver = Driver(fields.1);
     if kind == Record::EVENT {
         return steps::event(

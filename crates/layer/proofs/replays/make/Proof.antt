@@ -12,13 +12,16 @@ use Rattle.layer.proofs.ReplayLaws.{tells-call, tells-event, tells-resu
 use Rattle.layer.proofs.replays.make.Statement.{statement}
 use Rattle.layer.proofs.replays.make.Tie as tie
 
-cast-class : tie.Need-cast-class
-cast-class c = let s = c .before .before .before .before .before in omega (arith, s .pre .3 (c .before .if1 .taken))
+call-requires : tie.Need-call-requires
+call-requires c κs =
+    let e = c .before .before in
+    let s = e .before .before .before .before in
+    (s .pre .0, s .pre .3 (e .if1 .taken))
 
 returns : tie.Need-returns
 returns c f =
     let k = c .before .before .before .before in
-    let e = k .before .before .before .before in
+    let e = k .before .before .before in
     let s = e .before .before .before .before in
     ap (λ (z : Step). tableStep z (lent (s .args .table .now) (s .args .memory .now) f)) (tells-call (s .args .fields) (s .args .bytes .now) (s .args .kind) (e .if1 .taken)) ∙ k .call .ensures f
 
@@ -62,8 +65,7 @@ pub make-spec : {M : Type 1} → statement M
 make-spec =
     tie.close
     (tie.spec
-    cast-class
-    (λ c κs. search needs)
+    call-requires
     (λ c. search needs)
     (λ c. search needs)
     returns
