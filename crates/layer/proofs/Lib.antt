@@ -12,4 +12,5 @@ mod ReadLaws
 mod RefusalLaws
 mod ReplayLaws
 mod StepLaws
+mod TurnLaws
 mod YieldLaws

@@ -1,208 +1,38 @@
--- Laws of the run over a trace: the step that a record tells, the line of a fetch, one record, and the loop.
+-- Laws of the run over a trace: the loop, the board, and the public run.
 use Prim.Native.Nat.{ℕ, _+_, _-_, _≤_, _<_}
 use mathlib.Core.Path.{_≡_, refl, sym, ap, _∙_, subst}
 use mathlib.Core.Logic.{_⊎_, inl, inr, ⊎-elim}
-use mathlib.Core.Bool.{Bool, true, false}
-use mathlib.Core.List.{List, [], _∷_, _++_, append-nil, append-assoc}
-use native.Mathlib.Decide.{ℕ-discrete}
+use mathlib.Core.Bool.{true, false}
+use mathlib.Core.List.{List, _++_, append-nil, append-assoc}
 use native.Mathlib.Omega.{arith}
 use lib.ListN.{length, take, drop}
 use lib.Seq.{drop-drop}
 use lib.Dec.{eqb}
 use borrow.Author.Tests.{eq-eqb, ne-eqb}
-use Rattle.definition.specs.Tests.{if_then_else_}
-use Rattle.definition.specs.Limits.{imageBytes}
-use Rattle.definition.specs.Answer.{Part, emptyPart, Answer, refused, fetched, changesNothing}
-use Rattle.definition.specs.Decide.{call, event, resume, deposit, fetch}
-use Rattle.definition.specs.World.{Step, own, latch, Out}
-use Rattle.definition.specs.Image.{stateOf, wellFormed}
-use Rattle.definition.specs.Table.{Lent, worldOf, tableStep, start}
-use Rattle.definition.specs.Trace.{Found, found, spoiled, cut, board, oneRecord, stepOf, readAt, lastKind}
-use Rattle.definition.specs.Lines.{line, letterF, lineOf, broken}
+use Rattle.definition.specs.Answer.{Answer}
+use Rattle.definition.specs.World.{Out}
+use Rattle.definition.specs.Image.{wellFormed}
+use Rattle.definition.specs.Table.{Lent, start}
+use Rattle.definition.specs.Trace.{found, spoiled, cut, board, readAt}
+use Rattle.definition.specs.Lines.{lineOf, broken}
 use Rattle.definition.specs.Replay.{Played, played, following, playFrom, isBadBoard, playBoard, playAt}
-use Rattle.theorems.specs.Good.{good-of}
-use Rattle.theorems.specs.ImageBack.{well-formed-good}
-use Rattle.theorems.specs.Fetched.{fetch-hands}
-use Rattle.theorems.specs.Unchanged.{unchanged}
-use Rattle.theorems.specs.Formed.{formed-kept, Begins, accepted, noBoard, noTable, start-begins}
-use Rattle.theorems.specs.Replays.{Forward, play-end, play-record, play-spoiled, play-cut, play-board, board-goes-on, board-ends, play-from}
-use Rattle.trace.specs.declared.records.Fields.{Fields}
-use Rattle.trace.specs.declared.records.Record.{Record}
-use Rattle.trace.specs.declared.records.Read.the-variants as reads
+use Rattle.theorems.specs.Formed.{Begins, accepted, noBoard, noTable, start-begins}
+use Rattle.theorems.specs.Replays.{play-end, play-board, board-goes-on, board-ends, play-from}
 use Rattle.trace.specs.declared.numbers.Number.{Number}
 use Rattle.trace.specs.declared.numbers.Number.the-variants as N
-use Rattle.trace.specs.Meaning.{Boarded, recordFound}
-use Rattle.trace.specs.TraceLaws.{record-end, board-end}
-use Rattle.trace.specs.Answers.{record-spoiled, record-cut, record-step, board-spoiled, board-cut}
+use Rattle.trace.specs.Meaning.{Boarded}
+use Rattle.trace.specs.TraceLaws.{board-end}
+use Rattle.trace.specs.Answers.{board-spoiled, board-cut}
 use Rattle.lines.specs.Puts.{Put, shortLine}
 use Rattle.lines.specs.PutLaws.{put-head, put-tail, put-fits}
 use Rattle.layer.specs.declared.Progress.{Progress}
 use Rattle.layer.specs.declared.Progress.the-variants.{Ended, Paused}
 use Rattle.layer.specs.declared.replays.Turn.{Turn}
 use Rattle.layer.specs.declared.replays.Turn.the-variants as T
-use Rattle.layer.specs.declared.replays.Room.{Room}
-use Rattle.layer.specs.declared.replays.Room.the-variants as R
-use Rattle.layer.specs.Steps.{lent, gave, Makes, Starts}
-use Rattle.layer.specs.Fetching.{numberOf, partOf}
-use Rattle.layer.specs.Demand3.{fetches}
-use Rattle.layer.specs.Replaying.{longestLine, Wrote, Plays, Goes, Moves, Short, Made, Turned, Acted, FetchTold, stepBy}
-use Rattle.layer.proofs.FetchLaws.{fetch-no-memory, fetch-no-flash, fetch-two, fetch-checked}
-
--- ---- the step that a record tells
-
-module _ (f : Fields) (bytes : List ℕ) (kind : ℕ) where
-  told-as : {k : ℕ} → kind ≡ k → stepBy kind f bytes ≡ stepBy k f bytes
-  told-as e = ap (λ k. stepBy k f bytes) e
-
-  pub tells-call : kind ≡ 0 → stepBy kind f bytes ≡ own (f .0) (call (f .1) (f .2) (f .3) (f .4) (f .5))
-  unfolding stepOf if_then_else_
-  tells-call e = told-as e
-
-  pub tells-event : kind ≡ 1 → stepBy kind f bytes ≡ own (f .0) (event (f .1) (f .2) (f .3) (f .4) (f .5))
-  unfolding stepOf if_then_else_
-  tells-event e = told-as e
-
-  pub tells-resume : kind ≡ 2 → stepBy kind f bytes ≡ own (f .0) resume
-  unfolding stepOf if_then_else_
-  tells-resume e = told-as e
-
-  pub tells-deposit : kind ≡ 3 → stepBy kind f bytes ≡ own (f .0) (deposit (f .1) (f .2) (f .3) bytes)
-  unfolding stepOf if_then_else_
-  tells-deposit e = told-as e
-
-  pub tells-fetch : kind ≡ 4 → stepBy kind f bytes ≡ own (f .0) (fetch (f .1) (f .2) (f .3) (f .4))
-  unfolding stepOf if_then_else_
-  tells-fetch e = told-as e
-
-  pub last-kind : kind ≤ lastKind → (kind ≡ 0 → ⊥) → (kind ≡ 1 → ⊥) → (kind ≡ 2 → ⊥) → (kind ≡ 3 → ⊥) → (kind ≡ 4 → ⊥) → kind ≡ 5
-  last-kind h a b c d e = omega arith
-
-  pub tells-latch : kind ≡ 5 → stepBy kind f bytes ≡ latch (f .0) (f .1)
-  unfolding stepOf if_then_else_
-  tells-latch e = told-as e
-
--- ---- a fetch
-
--- what was put is the line that was meant
-pub put-as : {l l′ : List ℕ} {at : ℕ} {old new : List ℕ} {end : ℕ} → l ≡ l′ → Put l at old new end → Put l′ at old new end
-put-as {l} {l′} {at} {old} {new} {end} e p = subst (λ l. Put l at old new end) e p
-
-refused-line : (n : ℕ) (y : Part) → (n ≡ 0 → ⊥) → lineOf (fetched n y) ≡ lineOf (refused n)
-unfolding lineOf if_then_else_
-refused-line n y h = rw (ne-eqb n 0 h)
-
-part-line : (n : ℕ) (y : Part) → n ≡ 0 → lineOf (fetched n y) ≡ line letterF (length (y .bytes) ∷ y .bytes)
-unfolding lineOf if_then_else_
-part-line n y e = rw (eq-eqb n 0 e)
-
-module _ (p driver j offset n : ℕ) (t m f : List ℕ) where
-  abbrev asked : Step
-  asked = own p (fetch driver j offset n)
-
-  abbrev told : Answer
-  told = tableStep asked (lent t m f) .answer
-
-  whole : told ≡ fetched (numberOf told) (partOf told)
-  whole = fetches p driver j offset n (lent t m f) .whole
-
-  pub fetch-leaves : lent t m f ≡ tableStep asked (lent t m f) .after
-  fetch-leaves = sym (unchanged .tables asked (lent t m f) (ap changesNothing whole))
-
-  -- its line, where r is its number, and where l is its part
-  pub fetch-refused-line : (r : ℕ) → r ≡ numberOf told → (r ≡ 0 → ⊥) → lineOf (refused r) ≡ lineOf told
-  fetch-refused-line r e h = sym (ap lineOf whole ∙ ap (λ k. lineOf (fetched k (partOf told))) (sym e) ∙ refused-line r (partOf told) h)
-
-  pub fetch-part-line : (r : ℕ) → r ≡ numberOf told → r ≡ 0 → (l : List ℕ) → l ≡ partOf told .bytes → line letterF (length l ∷ l) ≡ lineOf told
-  fetch-part-line r e z l g = sym (ap lineOf whole ∙ part-line (numberOf told) (partOf told) (sym e ∙ z) ∙ ap (λ l. line letterF (length l ∷ l)) (sym g))
-
-  -- it is no longer than an image
-  none : (k : ℕ) → told ≡ fetched k emptyPart → length (partOf told .bytes) ≤ imageBytes
-  none k e = subst (λ (a : Answer). length (partOf a .bytes) ≤ imageBytes) (sym e) (omega arith)
-
-  pub part-bound : (r : ℕ) → r ≡ numberOf told → r ≡ 0 → length (partOf told .bytes) ≤ imageBytes
-  part-bound r e z = elim (ℕ-discrete (length m) imageBytes) [
-    | yes memory-size ↦ elim (ℕ-discrete (length f) imageBytes) [
-      | yes flash-size ↦ checked memory-size flash-size (wellFormed t) refl
-      | no h ↦ none 1 (fetch-no-flash p driver j offset n t m f h)
-    ]
-    | no h ↦ none 1 (fetch-no-memory p driver j offset n t m f h)
-  ]
-    where
-      checked : length m ≡ imageBytes → length f ≡ imageBytes → (b : Bool) → wellFormed t ≡ b → length (partOf told .bytes) ≤ imageBytes
-      checked memory-size flash-size true formed =
-          let h = fetch-hands p driver j offset n (worldOf (lent t m f)) (partOf told) (good-of (stateOf t) (well-formed-good t formed)) memory-size flash-size
-          (sym (fetch-checked p driver j offset n t m f memory-size flash-size formed) ∙ whole ∙ ap (λ k. fetched k (partOf told)) (sym e ∙ z)) in
-          omega (arith, h .size, h .inside)
-      checked memory-size flash-size false formed = none 2 (fetch-two p driver j offset n t m f memory-size flash-size formed)
-
--- ---- a record that was read
-
-module _ (f : Fields) (bytes : List ℕ) (kind : ℕ) (t m fl : List ℕ) (j used : ℕ) (old new : List ℕ) where
-  -- a fetch that was told, by what the code has matched
-  pub acted-fetch : kind ≡ 4 → (r : Room) (end : ℕ) → r ≡ R.Used end → FetchTold (own (f .0) (fetch (f .1) (f .2) (f .3) (f .4))) (lent t m fl) used old r new
-      → Acted (stepBy kind f bytes) (lent t m fl) j used old (T.On j end) (lent t m fl) new
-  unfolding Acted FetchTold
-  acted-fetch e r end q told =
-      let s = tells-fetch f bytes kind e in
-      let x : Lent = lent t m fl in
-      let put = subst (λ (r : Room). FetchTold (own (f .0) (fetch (f .1) (f .2) (f .3) (f .4))) x used old r new) q told in
-      (refl, subst (λ (s : Step). Made s x used old end x new) (sym s) (record { lent = fetch-leaves (f .0) (f .1) (f .2) (f .3) (f .4) t m fl; line = put }))
-
-pub acted-short : (s s′ : Step) (x : Lent) (j used : ℕ) (old new : List ℕ) (r : Room) → r ≡ R.Short → FetchTold s x used old r new → Acted s′ x j used old T.Full x new
-unfolding Acted FetchTold
-acted-short s s′ x j used old new r q told = subst (λ (r : Room). FetchTold s x used old r new) q told
-
--- another step that was made, and its line put
-pub acted-made : (s : Step) (t m f : List ℕ) (a : Answer) (t′ m′ : List ℕ) (j used : ℕ) (old new : List ℕ) (end : ℕ) → Makes s t m a t′ m′ → Put (lineOf a) used old new end
-    → Acted s (lent t m f) j used old (T.On j end) (lent t′ m′ f) new
-unfolding Acted
-acted-made s t m f a t′ m′ j used old new end makes put = (
-  refl,
-  record {
-    lent = sym (ap (λ (o : Out Lent). o .after) (makes f));
-    line = put-as (sym (ap (λ (o : Out Lent). lineOf (o .answer)) (makes f))) put;
-  },
-)
-
--- no room for a line
-pub turned-full : (s : List ℕ) (x : Lent) (i used : ℕ) (old : List ℕ) → length old < used + longestLine → Turned s x i used old T.Full x old
-unfolding Turned
-turned-full s x i used old h = record { lent = refl; buffer = refl; room = h }
-
--- ---- the record at a place
-
-forward : (s : List ℕ) → Forward s
-forward s i r j e = omega (arith, record-end s i r j e .0)
-
-module _ (s : List ℕ) (x : Lent) (i used : ℕ) (old : List ℕ) (h : i < length s) where
-  pub turned-acted : (read : Record) → reads.Record read ≡ recordFound (readAt oneRecord s i) → (r : Turn) (y : Lent) (new : List ℕ)
-      → Acted (stepBy (read .kind) (read .fields) (take (read .next - read .from) (drop (read .from) s))) x (read .next) used old r y new → Turned s x i used old r y new
-  unfolding Acted Turned
-  turned-acted read e (T.On k end) y new (next, made) =
-      let (t, (f, told)) = record-step s i read e in
-      let step = stepBy (read .kind) (read .fields) (take (read .next - read .from) (drop (read .from) s)) in
-      let plays = play-record s (forward s) x i h t (read .next) f in
-      let line = lineOf (tableStep step x .answer) in
-      let j-is : read .next ≡ k = sym next in (
-        line,
-        (
-          made .line,
-          plays ∙ ap (λ (s′ : Step). following (lineOf (tableStep s′ x .answer)) (playFrom s (tableStep s′ x .after) (read .next))) (sym told)
-              ∙ ap (λ (y : Lent). following line (playFrom s y (read .next))) (sym (made .lent)) ∙ ap (λ k. following line (playFrom s y k)) j-is,
-          omega (arith, forward s i t (read .next) f),
-          ap (λ (y : Lent). wellFormed (y .table)) (made .lent) ∙ formed-kept step x,
-        ),
-      )
-  turned-acted read e (T.Ended end) y new a = absurd a
-  turned-acted read e T.Full y new a = a
-
-  pub turned-broken : reads.Broken ≡ recordFound (readAt oneRecord s i) → (new : List ℕ) (end : ℕ) → Put (broken i) used old new end → Turned s x i used old (T.Ended end) x new
-  unfolding Turned
-  turned-broken e new end put = (broken i, (put, play-spoiled s (forward s) x i h (record-spoiled (readAt oneRecord s i) e)))
-
-  pub turned-cut : reads.Cut ≡ recordFound (readAt oneRecord s i) → (new : List ℕ) (end : ℕ) → Put (broken i) used old new end → Turned s x i used old (T.Ended end) x new
-  unfolding Turned
-  turned-cut e new end put = (broken i, (put, play-cut s (forward s) x i h (record-cut (readAt oneRecord s i) e)))
+use Rattle.layer.specs.Steps.{lent, gave, Starts}
+use Rattle.layer.specs.Fetching.{numberOf}
+use Rattle.layer.specs.Replaying.{longestLine, Wrote, Plays, Goes, Moves, Turned}
+use Rattle.layer.proofs.TurnLaws.{forward}
 
 -- ---- the loop: the lines so far, followed by the records from here on, are the run
 
