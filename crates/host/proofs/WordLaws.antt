@@ -1,7 +1,7 @@
 -- Laws of the words of an answer: how they get to the front of out, and what a host is told by them.
 use Prim.Native.Nat.{ℕ, _+_, _≤_, _<_}
-use mathlib.Core.Path.{_≡_, refl, sym, ap, ap₂, _∙_}
-use mathlib.Core.Bool.{Bool, true, false}
+use mathlib.Core.Path.{_≡_, sym, ap, ap₂, _∙_}
+use mathlib.Core.Bool.{true, false}
 use mathlib.Core.List.{List, [], _∷_, _++_}
 use native.Mathlib.Omega.{arith}
 use lib.ListN.{length, drop}
@@ -12,13 +12,13 @@ use Rattle.definition.specs.Answer.{Part, Answer, fetched, changesNothing}
 use Rattle.definition.specs.Decide.{fetch}
 use Rattle.definition.specs.World.{Step, own, Out}
 use Rattle.definition.specs.Table.{Lent, tableStep}
-use Rattle.theorems.specs.Unchanged.{unchanged}
+use Rattle.laws.specs.Unchanged.{unchanged}
 use Rattle.types.specs.declared.Image.{Image as Named}
 use Rattle.words.specs.Splice.{splice}
 use Rattle.layer.specs.declared.Place.{Place}
-use Rattle.layer.specs.Steps.{lent, gave}
+use Rattle.layer.specs.Steps.{gave}
 use Rattle.layer.specs.Fetching.{numberOf, partOf, imageOf, Lies}
-use Rattle.layer.specs.Demand3.{fetches}
+use Rattle.layer.specs.StatementLaws.{fetches}
 use Rattle.host.specs.Answers.{imageWord, answerWords, placeWords, told, tell}
 
 -- a row that is put at the front of out

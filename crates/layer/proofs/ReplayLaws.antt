@@ -16,8 +16,8 @@ use Rattle.definition.specs.Table.{Lent, start}
 use Rattle.definition.specs.Trace.{found, spoiled, cut, board, readAt}
 use Rattle.definition.specs.Lines.{lineOf, broken}
 use Rattle.definition.specs.Replay.{Played, played, following, playFrom, isBadBoard, playBoard, playAt}
-use Rattle.theorems.specs.Formed.{Begins, accepted, noBoard, noTable, start-begins}
-use Rattle.theorems.specs.Replays.{play-end, play-board, board-goes-on, board-ends, play-from}
+use Rattle.laws.specs.Formed.{Begins, accepted, noBoard, noTable, start-begins}
+use Rattle.laws.specs.Replays.{play-end, play-board, board-goes-on, board-ends, play-from}
 use Rattle.trace.specs.declared.numbers.Number.{Number}
 use Rattle.trace.specs.declared.numbers.Number.the-variants as N
 use Rattle.trace.specs.Meaning.{Boarded}

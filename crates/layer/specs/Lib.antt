@@ -1,6 +1,6 @@
+-- ---- the statements of the public functions
 pub mod Steps
 pub mod Fetching
-pub mod Calls
-pub mod Demand3
 pub mod Replaying
-pub mod Pauses
+-- ---- laws of them, for the crates above
+pub mod StatementLaws

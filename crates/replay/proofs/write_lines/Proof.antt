@@ -1,12 +1,10 @@
 -- What was written lies in the buffer, which has room for the longest line: so a pause is further on in the trace.
-use mathlib.Core.Path.{_≡_, refl, sym, _∙_, subst}
+use mathlib.Core.Path.{refl, sym, subst}
 use mathlib.Core.Logic.{inl, inr}
-use Prim.Native.Nat.{ℕ, _≤_}
-use native.Mathlib.Omega.{arith}
+use Prim.Native.Nat.{_≤_}
 use borrow.Author.Needs.{needs}
-use lib.ListN.{length}
 use lib.Seq.{length-take-le}
-use Rattle.layer.specs.Pauses.{ended-within, paused-within, paused-in-trace, paused-further}
+use Rattle.layer.specs.StatementLaws.{ended-within, paused-within, paused-in-trace, paused-further}
 use Rattle.replay.proofs.write_lines.Statement.{statement}
 use Rattle.replay.proofs.write_lines.Tie as tie
 

@@ -1,0 +1,126 @@
+-- What an accepted fetch hands back: a part of an image itself, of the length that was asked for.
+use Prim.Native.Nat.{ℕ, _+_, _-_, _≤_, _<_}
+use mathlib.Core.Path.{_≡_, refl, sym, ap, _∙_, subst}
+use mathlib.Core.Logic.{_≢_}
+use mathlib.Core.Bool.{Bool, true, false}
+use mathlib.Core.List.{List, []}
+use native.Mathlib.Omega.{arith}
+use lib.ListN.{length, take, drop}
+use lib.Dec.{eqb}
+use borrow.Author.Tests.{ltb-true, ltb-false, eqb-true, eqb-false, not-false}
+use Rattle.definition.specs.Tests.{if_then_else_, within}
+use Rattle.definition.specs.Limits.{imageBytes, memoryBase, flashBase}
+use Rattle.definition.specs.Board.{Areas, readOnly, areasAt, placeOf, driverAt, slotsOf, hasSlot}
+use Rattle.definition.specs.State.{Pair, Process, held, slotAt}
+use Rattle.definition.specs.Answer.{Image, memory, flash, Part, emptyPart, fetched}
+use Rattle.definition.specs.Area.{Area, inRam, inFlash, areaOf, accessible, holdable}
+use Rattle.definition.specs.Words.{part}
+use Rattle.definition.specs.Decide.{fetch, answers, partIn, partOf, decideAccepted, refusal, decide}
+use Rattle.definition.specs.World.{World, own, processAt, ramOf, viewOf, answerOf, perform, step}
+use Rattle.laws.specs.Facts.{clash, either, passed, within-true}
+use Rattle.laws.specs.Rows.{part-part, part-length}
+use Rattle.laws.specs.Slots.{areaBy, held-holdable}
+use Rattle.laws.specs.Boards.{Placed, placed, few-drivers, few-slots}
+use Rattle.laws.specs.Good.{Good}
+
+-- the image that a part names
+abbrev pub imageIn : Image → World → List ℕ
+imageIn memory w = w .memory
+imageIn flash w = w .flash
+
+-- the part is the n bytes of its image from its place on, and the image has that many there
+pub record PartHanded (w : World) (n : ℕ) (x : Part) : Type 0 where
+  pub bytes : x .bytes ≡ take n (drop (x .place) (imageIn (x .image) w))
+  pub size : length (x .bytes) ≡ n
+  pub inside : x .place + n ≤ imageBytes
+
+-- ---- where a held buffer lies
+
+-- a non-empty read-only buffer lies in RAM below the break, or in flash
+data Readable (a : Areas) (break : ℕ) (x : Pair) : Area → Type 0 where
+  ramHeld : a .ramStart ≤ x .first → x .first + x .second ≤ break → Readable a break x inRam
+  flashHeld : a .flashStart ≤ x .first → x .first + x .second ≤ a .flashEnd → Readable a break x inFlash
+
+readable-inside : (a : Areas) (break : ℕ) (x : Pair) → holdable readOnly a break x ≡ true → 0 < x .second → Readable a break x (areaOf a break x)
+unfolding holdable areaOf accessible if_then_else_
+readable-inside a break x e h = go (eqb (x .second) 0) (within (a .ramStart) break (x .first) (x .second)) (within (a .flashStart) (a .flashEnd) (x .first) (x .second)) refl refl refl e
+  where
+    go : (none ram rom : Bool) → eqb (x .second) 0 ≡ none → within (a .ramStart) break (x .first) (x .second) ≡ ram → within (a .flashStart) (a .flashEnd) (x .first) (x .second) ≡ rom
+        → accessible readOnly (areaBy none ram rom) ≡ true → Readable a break x (areaBy none ram rom)
+    go true ram rom p q r i = let z = eqb-true (x .second) 0 p in absurd (omega arith)
+    go false true rom p q r i = let (s, t) = within-true (a .ramStart) break (x .first) (x .second) q in ramHeld s t
+    go false false true p q r i = let (s, t) = within-true (a .flashStart) (a .flashEnd) (x .first) (x .second) r in flashHeld s t
+    go false false false p q r i = clash i refl
+
+-- ---- the part
+
+module _ (p : ℕ) (w : World) (g : Good (w .state)) (size : length (w .memory) ≡ imageBytes) (flash-size : length (w .flash) ≡ imageBytes) where
+  image-size : (i : Image) → length (imageIn i w) ≡ imageBytes
+  image-size memory = size
+  image-size flash = flash-size
+
+  handed : (i : Image) (k n : ℕ) (l : List ℕ) → l ≡ take n (drop k (imageIn i w)) → k + n ≤ imageBytes → PartHanded w n (record { image = i; place = k; bytes = l })
+  unfolding part
+  handed i k n l e h = record { bytes = e; size = ap length e ∙ part-length k n (imageIn i w) (omega (arith, image-size i)); inside = h }
+
+  abbrev areas : Areas
+  areas = areasAt (w .state .board) p
+
+  abbrev process : Process
+  process = processAt (w .state) p
+
+  part-handed : (x : Pair) (area : Area) (offset n : ℕ) → Placed areas → Readable areas (process .break) x area → offset + n ≤ x .second → PartHanded w n (partIn (viewOf w p) area (x .first + offset) n)
+  unfolding partIn viewOf ramOf part
+  part-handed x inRam offset n o (ramHeld s t) h =
+      let end : process .break ≤ areas .ramEnd = omega (arith, g .each p .high, o .grant-high) in
+      let base = o .base in
+      let place : areas .ramStart - memoryBase + (x .first + offset - areas .ramStart) ≡ x .first + offset - memoryBase = omega arith in
+      handed memory (x .first + offset - memoryBase) n _
+      (part-part (areas .ramStart - memoryBase) (areas .ramEnd - areas .ramStart) (x .first + offset - areas .ramStart) n (w .memory) (omega arith) ∙ ap (λ k. take n (drop k (w .memory))) place)
+      (omega (arith, o .top))
+  part-handed x inFlash offset n o (flashHeld s t) h = handed flash (x .first + offset - flashBase) n _ refl (omega (arith, o .flash-base, o .flash-top))
+
+  -- a length of 0 touches no address; else the buffer is not empty
+  held-handed : (x : Pair) (offset n : ℕ) → Placed areas → holdable readOnly areas (process .break) x ≡ true → offset + n ≤ x .second → PartHanded w n (partOf (viewOf w p) process x offset n)
+  unfolding partOf viewOf
+  held-handed x offset n o e h = either (PartHanded w n) (eqb n 0) _ _ (λ z. subst (λ k. PartHanded w k emptyPart) (sym (eqb-true n 0 z)) (handed memory 0 0 [] refl (omega arith))) λ z.
+      let some : n ≢ 0 = eqb-false n 0 z in
+      part-handed x _ offset n o (readable-inside areas (process .break) x e (omega arith)) h
+
+  module _ (driver j offset n : ℕ) where
+    abbrev place : ℕ
+    place = placeOf (w .state .board .drivers) driver
+
+    abbrev number : ℕ
+    number = refusal (viewOf w p) process (fetch driver j offset n)
+
+    abbrev handedBack : Part
+    handedBack = partOf (viewOf w p) process (held readOnly process place j) offset n
+
+    -- the process is on the board, the slot exists, and the bytes lie in the buffer that it holds
+    accepted-hands : number ≡ 0 → PartHanded w n handedBack
+    unfolding refusal viewOf hasSlot
+    accepted-hands e =
+        let (on, e1) = passed _ _ _ e in
+        let (awake, e2) = passed _ _ _ e1 in
+        let (i, e3) = passed _ _ _ e2 in
+        let (s, e4) = passed _ _ _ e3 in
+        let b = w .state .board in
+        let installed = ltb-true place (length (b .drivers)) (not-false _ i) in
+        let exists = ltb-true j (slotsOf readOnly (driverAt b place)) (not-false _ s) in
+        let x = held readOnly process place j in
+        let hold = held-holdable readOnly b areas (process .break) place j x (omega (arith, few-drivers b (g .board))) (omega (arith, few-slots b (g .board) readOnly place)) (g .each p .slots (slotAt readOnly place j)) in
+        held-handed x offset n (placed b (g .board) p (ltb-true p (length (b .processes)) (not-false _ on))) hold (ltb-false (x .second) (offset + n) (passed _ _ _ e4 .0))
+
+    -- a refused fetch answers another number than 0
+    answer-hands : (x : Part) (t : Bool) → eqb number 0 ≡ t → answerOf p (w .state .claims) process (if t then answers (fetched 0 handedBack) else answers (fetched number emptyPart)) ≡ fetched 0 x
+        → PartHanded w n x
+    unfolding answerOf if_then_else_
+    answer-hands x true q e = let same : handedBack ≡ x = cc in subst (PartHanded w n) same (accepted-hands (eqb-true number 0 q))
+    answer-hands x false q e = absurd (eqb-false number 0 q (cc))
+
+-- so no part is made up: it is what the image holds there
+pub fetch-hands : (p driver j offset n : ℕ) (w : World) (x : Part) → Good (w .state) → length (w .memory) ≡ imageBytes → length (w .flash) ≡ imageBytes
+    → step (own p (fetch driver j offset n)) w .answer ≡ fetched 0 x → PartHanded w n x
+unfolding step perform decide decideAccepted viewOf
+fetch-hands p driver j offset n w x g size flash-size e = answer-hands p w g size flash-size driver j offset n x _ refl e

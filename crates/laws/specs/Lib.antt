@@ -1,0 +1,24 @@
+-- ---- of tests, lists and rows of words
+pub mod Facts
+pub mod Zero
+pub mod Rows
+-- ---- of records, boards and states as words
+pub mod Codec
+pub mod BoardBack
+pub mod ImageBack
+pub mod Form
+-- ---- of boards, slots and claims
+pub mod Places
+pub mod Slots
+pub mod Boards
+pub mod Claims
+-- ---- of steps: why an outcome comes, and what it keeps
+pub mod Why
+pub mod Fit
+pub mod Stores
+pub mod Good
+pub mod Unchanged
+pub mod Fetched
+pub mod Formed
+-- ---- of the run over a trace
+pub mod Replays
