@@ -8,7 +8,7 @@ use native.Mathlib.Decide.{decLt}
 use lib.ListN.{length, List·getD-eq-default}
 use lib.Dec.{leb}
 use borrow.Author.Tests.{leb-true, ltb-true}
-use Rattle.definition.specs.Limits.{maxProcesses, maxDrivers, maxSlots, imageBytes, memoryBase, flashBase}
+use Rattle.definition.specs.Limits.{maxDrivers, maxSlots, imageBytes, memoryBase, flashBase}
 use Rattle.definition.specs.Board.{Board, Areas, noAreas, Driver, noDriver, Kind, subscribe, readWrite, readOnly, areasAt, driverAt, slotsOf, disjoint, ramDisjoint, goodAreas, goodDriver, goodBoard}
 use Rattle.laws.specs.Facts.{each-holds, below-at, pairwise-at}
 use Rattle.laws.specs.Fit.{Ground}
@@ -73,10 +73,6 @@ pub off-areas : (b : Board) (p : ℕ) → length (b .processes) ≤ p → areasA
 off-areas b p h = List·getD-eq-default (b .processes) noAreas h
 
 module _ (b : Board) (good : goodBoard b ≡ true) where
-  pub few-processes : length (b .processes) ≤ maxProcesses
-  unfolding goodBoard
-  few-processes = leb-true _ _ (each-holds _ good .1 .0)
-
   pub few-drivers : length (b .drivers) ≤ maxDrivers
   unfolding goodBoard
   few-drivers = leb-true _ _ (each-holds _ good .1 .1 .0)

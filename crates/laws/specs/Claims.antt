@@ -74,16 +74,14 @@ module _ (b : Board) (processes : List Process) where
   released : (k : ℕ) (c : Claim) → (isShared b k ≡ false → c ≡ free) → ClaimFits b processes k (withOwner 0 c)
   released k c u = record { unshared = λ e. ap (withOwner 0) (u e); owned = λ q e. absurd (omega arith) }
 
-  freed-fits : (k p : ℕ) (x : Process) (c : Claim) → ClaimFits b processes k c → ClaimFits b (set processes p x) k (freed p c)
+  -- with the claims of process p given up, where no other owner is lost
+  freed-fits : (k p : ℕ) (after : List Process) (c : Claim) → ((q : ℕ) → (p ≡ q → ⊥) → Owner b processes k q → Owner b after k q) → ClaimFits b processes k c → ClaimFits b after k (freed p c)
   unfolding freed if_then_else_
-  freed-fits k p x c g = go (eqb (c .owner) (suc p)) refl
+  freed-fits k p after c others g = go (eqb (c .owner) (suc p)) refl
     where
-      go : (t : Bool) → eqb (c .owner) (suc p) ≡ t → ClaimFits b (set processes p x) k (if t then withOwner 0 c else c)
+      go : (t : Bool) → eqb (c .owner) (suc p) ≡ t → ClaimFits b after k (if t then withOwner 0 c else c)
       go true e = record { unshared = λ u. ap (withOwner 0) (g .unshared u); owned = λ q o. absurd (omega arith) }
-      go false e = record {
-        unshared = g .unshared;
-        owned = λ q h. owner-kept k p q x (g .owned q h) (λ pq. absurd (eqb-false _ _ e (h ∙ ap suc (sym pq))));
-      }
+      go false e = record { unshared = g .unshared; owned = λ q h. others q (λ pq. eqb-false _ _ e (h ∙ ap suc (sym pq))) (g .owned q h) }
 
   command-fits : (k p n : ℕ) (c : Claim) → isShared b k ≡ true → Owner b processes k p → ClaimFits b processes k c → ClaimFits b processes k (afterCommand p n c)
   unfolding afterCommand if_then_else_
@@ -94,9 +92,16 @@ module _ (b : Board) (processes : List Process) where
       go false true = released k c (g .unshared)
       go false false = g
 
-pub freed-free : (p : ℕ) → freed p free ≡ free
+freed-free : (p : ℕ) → freed p free ≡ free
 unfolding freed if_then_else_
 freed-free p = rw (eqb·zero-suc p)
+
+pub freed-at : (p : ℕ) (claims : List Claim) (k : ℕ) → getD (map (freed p) claims) k free ≡ freed p (getD claims k free)
+freed-at p claims k = ap (getD (map (freed p) claims) k) (sym (freed-free p)) ∙ List·getD-map (freed p) claims k free
+
+pub all-freed : (b : Board) (processes after : List Process) (claims : List Claim) (p : ℕ) → ((k q : ℕ) → (p ≡ q → ⊥) → Owner b processes k q → Owner b after k q) → ClaimsFit b processes claims
+    → ClaimsFit b after (map (freed p) claims)
+all-freed b processes after claims p others c k = rw (freed-at p claims k) (freed-fits b processes k p after (getD claims k free) (others k) (c k))
 
 -- ---- an outcome
 
@@ -119,9 +124,7 @@ module _ (v : View) (processes : List Process) (claims : List Claim) (c : Claims
 
   -- a process that leaves gives up its claims
   given-up : (x : Process) → ClaimsFit (v .board) (set processes (v .self) x) (map (freed (v .self)) claims)
-  given-up x k =
-      rw (ap (getD (map (freed (v .self)) claims) k) (sym (freed-free (v .self))) ∙ List·getD-map (freed (v .self)) claims k free)
-      (freed-fits (v .board) processes k (v .self) x (getD claims k free) (c k))
+  given-up x = all-freed (v .board) processes (set processes (v .self) x) claims (v .self) (λ k q ne o. owner-kept (v .board) processes k (v .self) q x o (λ pq. absurd (ne pq))) c
 
   -- a command changes the claim that it names
   commanded : (a : Action) (k n x y : ℕ) → Why v process a (commands k n x y) → ClaimsFit (v .board) (after (commands k n x y)) (set claims k (afterCommand (v .self) n (getD claims k free)))

@@ -1,5 +1,5 @@
 -- What an accepted fetch hands back: a part of an image itself, of the length that was asked for.
-use Prim.Native.Nat.{ℕ, _+_, _-_, _≤_, _<_}
+use Prim.Native.Nat.{ℕ, _+_, _-_, _≤_}
 use mathlib.Core.Path.{_≡_, refl, sym, ap, _∙_, subst}
 use mathlib.Core.Logic.{_≢_}
 use mathlib.Core.Bool.{Bool, true, false}
@@ -8,18 +8,19 @@ use native.Mathlib.Omega.{arith}
 use lib.ListN.{length, take, drop}
 use lib.Dec.{eqb}
 use borrow.Author.Tests.{ltb-true, ltb-false, eqb-true, eqb-false, not-false}
-use Rattle.definition.specs.Tests.{if_then_else_, within}
+use Rattle.definition.specs.Tests.{if_then_else_}
 use Rattle.definition.specs.Limits.{imageBytes, memoryBase, flashBase}
 use Rattle.definition.specs.Board.{Areas, readOnly, areasAt, placeOf, driverAt, slotsOf, hasSlot}
 use Rattle.definition.specs.State.{Pair, Process, held, slotAt}
 use Rattle.definition.specs.Answer.{Image, memory, flash, Part, emptyPart, fetched}
-use Rattle.definition.specs.Area.{Area, inRam, inFlash, areaOf, accessible, holdable}
+use Rattle.definition.specs.Area.{Area, empty, inRam, inFlash, outside, accessible, holdable}
 use Rattle.definition.specs.Words.{part}
 use Rattle.definition.specs.Decide.{fetch, answers, partIn, partOf, decideAccepted, refusal, decide}
 use Rattle.definition.specs.World.{World, own, processAt, ramOf, viewOf, answerOf, perform, step}
-use Rattle.laws.specs.Facts.{clash, either, passed, within-true}
+use Rattle.laws.specs.Facts.{clash, either, passed}
 use Rattle.laws.specs.Rows.{part-part, part-length}
-use Rattle.laws.specs.Slots.{areaBy, held-holdable}
+use Rattle.laws.specs.Areas.{Lies, lies-nowhere, lies-ram, lies-flash, area-lies}
+use Rattle.laws.specs.Slots.{held-holdable}
 use Rattle.laws.specs.Boards.{Placed, placed, few-drivers, few-slots}
 use Rattle.laws.specs.Good.{Good}
 
@@ -33,24 +34,6 @@ pub record PartHanded (w : World) (n : ℕ) (x : Part) : Type 0 where
   pub bytes : x .bytes ≡ take n (drop (x .place) (imageIn (x .image) w))
   pub size : length (x .bytes) ≡ n
   pub inside : x .place + n ≤ imageBytes
-
--- ---- where a held buffer lies
-
--- a non-empty read-only buffer lies in RAM below the break, or in flash
-data Readable (a : Areas) (break : ℕ) (x : Pair) : Area → Type 0 where
-  ramHeld : a .ramStart ≤ x .first → x .first + x .second ≤ break → Readable a break x inRam
-  flashHeld : a .flashStart ≤ x .first → x .first + x .second ≤ a .flashEnd → Readable a break x inFlash
-
-readable-inside : (a : Areas) (break : ℕ) (x : Pair) → holdable readOnly a break x ≡ true → 0 < x .second → Readable a break x (areaOf a break x)
-unfolding holdable areaOf accessible if_then_else_
-readable-inside a break x e h = go (eqb (x .second) 0) (within (a .ramStart) break (x .first) (x .second)) (within (a .flashStart) (a .flashEnd) (x .first) (x .second)) refl refl refl e
-  where
-    go : (none ram rom : Bool) → eqb (x .second) 0 ≡ none → within (a .ramStart) break (x .first) (x .second) ≡ ram → within (a .flashStart) (a .flashEnd) (x .first) (x .second) ≡ rom
-        → accessible readOnly (areaBy none ram rom) ≡ true → Readable a break x (areaBy none ram rom)
-    go true ram rom p q r i = let z = eqb-true (x .second) 0 p in absurd (omega arith)
-    go false true rom p q r i = let (s, t) = within-true (a .ramStart) break (x .first) (x .second) q in ramHeld s t
-    go false false true p q r i = let (s, t) = within-true (a .flashStart) (a .flashEnd) (x .first) (x .second) r in flashHeld s t
-    go false false false p q r i = clash i refl
 
 -- ---- the part
 
@@ -69,23 +52,27 @@ module _ (p : ℕ) (w : World) (g : Good (w .state)) (size : length (w .memory) 
   abbrev process : Process
   process = processAt (w .state) p
 
-  part-handed : (x : Pair) (area : Area) (offset n : ℕ) → Placed areas → Readable areas (process .break) x area → offset + n ≤ x .second → PartHanded w n (partIn (viewOf w p) area (x .first + offset) n)
-  unfolding partIn viewOf ramOf part
-  part-handed x inRam offset n o (ramHeld s t) h =
+  -- by the area of a read-only buffer that is held
+  part-handed : (x : Pair) (area : Area) (offset n : ℕ) → Placed areas → accessible readOnly area ≡ true → Lies areas (process .break) x area → n ≢ 0 → offset + n ≤ x .second
+      → PartHanded w n (partIn (viewOf w p) area (x .first + offset) n)
+  unfolding partIn viewOf ramOf part accessible
+  part-handed x empty offset n o e (lies-nowhere z) some h = absurd (omega arith)
+  part-handed x inRam offset n o e (lies-ram _ s t) some h =
       let end : process .break ≤ areas .ramEnd = omega (arith, g .each p .high, o .grant-high) in
       let base = o .base in
       let place : areas .ramStart - memoryBase + (x .first + offset - areas .ramStart) ≡ x .first + offset - memoryBase = omega arith in
       handed memory (x .first + offset - memoryBase) n _
       (part-part (areas .ramStart - memoryBase) (areas .ramEnd - areas .ramStart) (x .first + offset - areas .ramStart) n (w .memory) (omega arith) ∙ ap (λ k. take n (drop k (w .memory))) place)
       (omega (arith, o .top))
-  part-handed x inFlash offset n o (flashHeld s t) h = handed flash (x .first + offset - flashBase) n _ refl (omega (arith, o .flash-base, o .flash-top))
+  part-handed x inFlash offset n o e (lies-flash _ _ s t) some h = handed flash (x .first + offset - flashBase) n _ refl (omega (arith, o .flash-base, o .flash-top))
+  part-handed x outside offset n o e l some h = clash e refl
 
   -- a length of 0 touches no address; else the buffer is not empty
   held-handed : (x : Pair) (offset n : ℕ) → Placed areas → holdable readOnly areas (process .break) x ≡ true → offset + n ≤ x .second → PartHanded w n (partOf (viewOf w p) process x offset n)
-  unfolding partOf viewOf
+  unfolding partOf viewOf holdable
   held-handed x offset n o e h = either (PartHanded w n) (eqb n 0) _ _ (λ z. subst (λ k. PartHanded w k emptyPart) (sym (eqb-true n 0 z)) (handed memory 0 0 [] refl (omega arith))) λ z.
       let some : n ≢ 0 = eqb-false n 0 z in
-      part-handed x _ offset n o (readable-inside areas (process .break) x e (omega arith)) h
+      part-handed x _ offset n o e (area-lies areas (process .break) x) some h
 
   module _ (driver j offset n : ℕ) where
     abbrev place : ℕ

@@ -1,11 +1,10 @@
 -- When words have the form of a table: a test of the words alone. With it, a table is well formed exactly if the state that it reads as is good.
 use Prim.Native.Nat.{ℕ, zero, suc, _+_, _-_, _*_, _≤_, _<_}
-use mathlib.Core.Path.{_≡_, refl, sym, ap, ap₂, _∙_, subst}
+use mathlib.Core.Path.{_≡_, refl, sym, ap, ap₂, _∙_}
 use mathlib.Core.Bool.{Bool, true, false, _&&_}
 use mathlib.Core.List.{List, [], _∷_, _++_}
-use native.Mathlib.Nat.{mul-comm, mul-sub}
 use native.Mathlib.Omega.{arith}
-use lib.ListN.{length, getD, drop, replicate, length-drop}
+use lib.ListN.{length, getD, drop, length-drop}
 use lib.Seq.{take-all}
 use lib.Dec.{leb, ltb, eqb}
 use borrow.Author.Tests.{leb-true, ltb-true, eqb-true, le-leb, lt-ltb, eq-eqb}
@@ -14,19 +13,17 @@ use Rattle.definition.specs.Limits.{maxProcesses, maxDrivers, maxQueue, allSlot
 use Rattle.definition.specs.Board.{noAreas, noDriver}
 use Rattle.definition.specs.State.{null, noUpcall, Status, running, waiting, exited, Process, noProcess, free, State}
 use Rattle.definition.specs.WellFormed.{goodState}
-use Rattle.definition.specs.Words.{part, tabulate, grid}
-use Rattle.definition.specs.Image.{pairWords, readPair, wordsInPair, upcallWords, readUpcall, wordsInUpcall, claimWords, readClaim, wordsInClaim, wordsOfAreas, readAreas, wordsOfDriver, readDriver, statusNumber, statusOf, slotsFrom, queueFrom, runWords, processWords, readProcess, areasFrom, driversFrom, claimsFrom, runsFrom, tableWords, imageOf, runOf, stateOf, wellFormed}
+use Rattle.definition.specs.Words.{part, grid}
+use Rattle.definition.specs.Image.{pairWords, readPair, wordsInPair, upcallWords, readUpcall, wordsInUpcall, claimWords, readClaim, wordsInClaim, wordsOfAreas, wordsOfDriver, statusNumber, statusOf, slotsFrom, queueFrom, runWords, processWords, readProcess, areasFrom, driversFrom, claimsFrom, runsFrom, tableWords, boardWords, imageOf, runOf, stateOf, wellFormed}
 use Rattle.laws.specs.Facts.{both, and, each-holds, all-hold, below-at, at-below}
-use Rattle.laws.specs.Rows.{tab-length, part-all, part-length, part-part, drop-part, part-join, wordsAt, words-part, row-fits, grid-tab, grid-full, grid-rest}
-use Rattle.laws.specs.Codec.{pair-words, upcall-words, claim-words, areas-words, driver-words, process-length, status-word, count-word, queue-part, Sized, no-process}
-use Rattle.laws.specs.ImageBack.{image-length, processes-count, areas-part, drivers-count, drivers-part, claims-part, runs-part, run-at, Shaped, shaped, image-well-formed, image-again, well-formed-good}
-use Rattle.laws.specs.Zero.{allZero, zero-is, zero-any}
+use Rattle.laws.specs.Rows.{tab-length, part-all, part-length, part-part, wordsAt, words-part, grid-full}
+use Rattle.laws.specs.Codec.{pair-words, upcall-words, claim-words, process-length, status-word, count-word, queue-part, Sized, no-process}
+use Rattle.laws.specs.BoardWords.{areas-part, drivers-part, board-again}
+use Rattle.laws.specs.ImageBack.{claimsIn, runsIn, in-three, image-length, processes-count, drivers-count, claims-part, runs-part, run-at, Shaped, shaped, image-well-formed, image-again, well-formed-good}
+use Rattle.laws.specs.Reads.{slots-count, queue-count}
+use Rattle.laws.specs.Zero.{allZero, zeroBetween, rows-again, rows-zero, side-by-side}
 
 -- ---- the tests
-
--- the words from place a up to place e are zero
-unfoldable pub zeroBetween : ℕ → ℕ → List ℕ → Bool
-zeroBetween a e t = allZero (part a (e - a) t)
 
 -- a run: a status, a queue within its limit, and zeros after the queue
 unfoldable pub runForm : List ℕ → Bool
@@ -90,39 +87,6 @@ true-table-form t f =
     let runs = at-below (getD t 0 0) (λ p. runForm (runOf t p)) (λ p q. true-run-form (runOf t p) (f .runs p q)) in
     all-hold _ (eq-eqb _ _ (f .size), (le-leb _ _ (f .processes), (le-leb _ _ (f .drivers), (f .afterAreas, (f .afterDrivers, (f .afterClaims, (f .afterRuns, (runs, tt))))))))
 
--- ---- rows from place a on: room for n of them, k in use, zeros after them
-
-module _ (t : List ℕ) (a n k w : ℕ) where
-  -- what follows the rows in use
-  rest : drop (k * w) (part a (n * w) t) ≡ part (a + k * w) (a + n * w - (a + k * w)) t
-  rest = drop-part a (k * w) (n * w) t ∙ ap (λ (j : ℕ). part (a + k * w) j t) (omega arith)
-
-  rest-length : a + n * w ≤ length t → length (drop (k * w) (part a (n * w) t)) ≡ (n - k) * w
-  rest-length fits =
-      length-drop (k * w) (part a (n * w) t) ∙ ap (λ (j : ℕ). j - k * w) (part-length a (n * w) t fits)
-      ∙ sym (rw (mul-comm (n - k) w, mul-sub w n k, mul-comm w n, mul-comm w k))
-
-  module _ {A : Type 0} (e : A → List ℕ) (d : A) (size : (x : A) → length (e x) ≡ w) (none : e d ≡ replicate w 0) (room : k ≤ n) where
-    -- read and written again they are the same words
-    rows-again : (f : ℕ → A) → a + n * w ≤ length t → ((i : ℕ) → i < k → e (f i) ≡ part (a + i * w) w t) → zeroBetween (a + k * w) (a + n * w) t ≡ true
-        → grid e d n (tabulate k f) ≡ part a (n * w) t
-    unfolding zeroBetween
-    rows-again f fits rows z =
-        grid-tab e d w size none k n f (part a (n * w) t) room (part-length a (n * w) t fits)
-        (λ i h. rows i h ∙ sym (part-part a (n * w) (i * w) w t (row-fits i n w (omega arith))))
-        (zero-is _ (ap allZero rest ∙ z) ∙ ap (λ (j : ℕ). replicate j 0) (rest-length fits))
-
-    -- where k elements are written, zeros follow
-    rows-zero : (l : List A) → length l ≡ k → part a (n * w) t ≡ grid e d n l → zeroBetween (a + k * w) (a + n * w) t ≡ true
-    unfolding zeroBetween
-    rows-zero l c q =
-        zero-any _ ((n - k) * w) (sym rest ∙ ap (drop (k * w)) q
-        ∙ subst (λ j. drop (j * w) (grid e d n l) ≡ replicate ((n - j) * w) 0) c (grid-rest e d w size none n l (omega arith)))
-
--- words that stand side by side
-side-by-side : (t : List ℕ) (a m n : ℕ) {x y : List ℕ} → x ≡ part a m t → y ≡ part (a + m) n t → x ++ y ≡ part a (m + n) t
-side-by-side t a m n p q = ap₂ (λ (x y : List ℕ). x ++ y) p q ∙ part-join a m n t
-
 -- ---- a process
 
 status-again : (n : ℕ) → n < 3 → statusNumber (statusOf n) ≡ n
@@ -170,11 +134,7 @@ module _ (run : List ℕ) (size : length run ≡ runWords) (f : RunForm run) whe
       ∙ part-all run runWords size
 
   pub process-sized : Sized (readProcess run)
-  unfolding readProcess
-  process-sized = record {
-    slots = tab-length allSlots (λ i. readPair run (slotsFrom + i * wordsInPair));
-    queue = rw (tab-length (getD run 2 0) (λ i. readUpcall run (queueFrom + i * wordsInUpcall))) (f .count);
-  }
+  process-sized = record { slots = slots-count run; queue = rw (queue-count run) (f .count) }
 
 pub process-form : (p : Process) → Sized p → runForm (processWords p) ≡ true
 process-form p z =
@@ -191,27 +151,14 @@ process-form p z =
 
 -- ---- the table
 
--- a number of records, and the word that it was read from
-count-again : {A : Type 0} (t : List ℕ) (k : ℕ) (f : ℕ → A) → k < length t → length (tabulate (getD t k 0) f) ∷ [] ≡ part k 1 t
-unfolding wordsAt
-count-again t k f h = ap {B = List ℕ} (λ n. n ∷ []) (tab-length (getD t k 0) f) ∙ words-part 1 k t (omega arith)
-
 module _ (t : List ℕ) (f : TableForm t) where
   pub run-length : (p : ℕ) → p < maxProcesses → length (runOf t p) ≡ runWords
   unfolding runOf
   run-length p h = part-length (runsFrom + p * runWords) runWords t (omega (arith, f .size))
 
-  areas-again : grid wordsOfAreas noAreas maxProcesses (stateOf t .board .processes) ≡ part areasFrom (maxProcesses * areasWords) t
+  board-is : boardWords maxProcesses maxDrivers (stateOf t .board) ≡ part 0 claimsFrom t
   unfolding stateOf
-  areas-again =
-      rows-again t areasFrom maxProcesses (getD t 0 0) areasWords wordsOfAreas noAreas (λ x. refl) refl (f .processes) (λ p. readAreas t (areasFrom + p * areasWords)) (omega arith)
-      (λ p h. areas-words t (areasFrom + p * areasWords) (omega arith)) (f .afterAreas)
-
-  drivers-again : grid wordsOfDriver noDriver maxDrivers (stateOf t .board .drivers) ≡ part (driversFrom + 1) (maxDrivers * driverWords) t
-  unfolding stateOf
-  drivers-again =
-      rows-again t (driversFrom + 1) maxDrivers (getD t driversFrom 0) driverWords wordsOfDriver noDriver (λ x. refl) refl (f .drivers) (λ k. readDriver t (driversFrom + 1 + k * driverWords)) (omega arith)
-      (λ k h. driver-words t (driversFrom + 1 + k * driverWords) (omega arith)) (f .afterDrivers)
+  board-is = board-again t maxProcesses maxDrivers (omega (arith, f .size)) (f .processes) (f .drivers) (f .afterAreas) (f .afterDrivers)
 
   claims-again : grid claimWords free maxDrivers (stateOf t .claims) ≡ part claimsFrom (maxDrivers * wordsInClaim) t
   unfolding stateOf
@@ -226,13 +173,10 @@ module _ (t : List ℕ) (f : TableForm t) where
       (λ p h. process-again (runOf t p) (run-length p (omega arith)) (f .runs p h)) (f .afterRuns)
 
   pub table-again : imageOf (stateOf t) ≡ t
-  unfolding imageOf stateOf
+  unfolding imageOf
   table-again =
-      side-by-side t 0 1 (tableWords - 1) (count-again t 0 (λ p. readAreas t (areasFrom + p * areasWords)) (omega arith))
-      (side-by-side t areasFrom (maxProcesses * areasWords) (tableWords - driversFrom) areas-again
-      (side-by-side t driversFrom 1 (tableWords - (driversFrom + 1)) (count-again t driversFrom (λ k. readDriver t (driversFrom + 1 + k * driverWords)) (omega arith))
-      (side-by-side t (driversFrom + 1) (maxDrivers * driverWords) (tableWords - claimsFrom) drivers-again
-      (side-by-side t claimsFrom (maxDrivers * wordsInClaim) (maxProcesses * runWords) claims-again runs-again))))
+      side-by-side t 0 claimsFrom (maxDrivers * wordsInClaim + maxProcesses * runWords) board-is
+      (side-by-side t claimsFrom (maxDrivers * wordsInClaim) (maxProcesses * runWords) claims-again runs-again)
       ∙ part-all t tableWords (f .size)
 
 -- ---- the image of a state
@@ -248,8 +192,8 @@ image-form s g =
       size = image-length s;
       processes = few;
       drivers = few′;
-      afterAreas = rows-zero t areasFrom maxProcesses (getD t 0 0) areasWords wordsOfAreas noAreas (λ x. refl) refl few (s .board .processes) (sym n) (areas-part s);
-      afterDrivers = rows-zero t (driversFrom + 1) maxDrivers (getD t driversFrom 0) driverWords wordsOfDriver noDriver (λ x. refl) refl few′ (s .board .drivers) (sym m) (drivers-part s);
+      afterAreas = rows-zero t areasFrom maxProcesses (getD t 0 0) areasWords wordsOfAreas noAreas (λ x. refl) refl few (s .board .processes) (sym n) (areas-part maxProcesses maxDrivers (s .board) t (claimsIn s ++ runsIn s) (in-three s));
+      afterDrivers = rows-zero t (driversFrom + 1) maxDrivers (getD t driversFrom 0) driverWords wordsOfDriver noDriver (λ x. refl) refl few′ (s .board .drivers) (sym m) (drivers-part maxProcesses maxDrivers (s .board) t (claimsIn s ++ runsIn s) (in-three s));
       afterClaims = rows-zero t claimsFrom maxDrivers (getD t driversFrom 0) wordsInClaim claimWords free (λ x. refl) refl few′ (s .claims) (g .claims ∙ sym m) (claims-part s);
       afterRuns = rows-zero t runsFrom maxProcesses (getD t 0 0) runWords processWords noProcess process-length no-process few (s .processes) (g .runs ∙ sym n) (runs-part s);
       runs = λ p h.

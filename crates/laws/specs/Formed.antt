@@ -13,8 +13,9 @@ use Rattle.definition.specs.World.{Step, Out}
 use Rattle.definition.specs.Image.{boardOf, goodBoardWords, tableWords, imageOf, stateOf, wellFormed}
 use Rattle.definition.specs.Table.{Lent, worldOf, tableStep, start}
 use Rattle.laws.specs.Facts.{either, passed}
-use Rattle.laws.specs.BoardBack.{board-fits}
-use Rattle.laws.specs.Good.{kept-good, fresh-good, of-good}
+use Rattle.laws.specs.BoardWords.{board-fits}
+use Rattle.laws.specs.Good.{of-good}
+use Rattle.laws.specs.Kept.{kept-good, fresh-good}
 use Rattle.laws.specs.ImageBack.{image-length, image-well-formed, image-again, well-formed-good}
 
 pub formed-kept : (s : Step) (x : Lent) → wellFormed (tableStep s x .after .table) ≡ wellFormed (x .table)

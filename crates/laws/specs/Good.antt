@@ -1,27 +1,26 @@
--- A good state, as propositions: they are what the tests say, and every step keeps them.
+-- A good state, as propositions: they are what the tests say.
 use Prim.Native.Nat.{ℕ, zero, suc, _-_, _<_}
 use mathlib.Core.Path.{_≡_, refl, sym, ap, _∙_, subst}
 use mathlib.Core.Bool.{Bool, true, false, _&&_, _||_, not}
 use mathlib.Core.List.{List, [], _∷_}
 use native.Mathlib.Omega.{arith}
 use native.Mathlib.Decide.{decLt}
-use lib.ListN.{length, getD, set, replicate, length-set, length-map, List·getD-map, length-replicate, List·getD-eq-default}
+use lib.ListN.{length, getD, set, replicate, length-replicate, List·getD-eq-default}
 use lib.Seq.{ext-getD}
 use lib.Dec.{eqb}
-use borrow.Author.Tests.{leb-true, ltb-true, eqb-true, le-leb, lt-ltb, eq-eqb, ne-eqb, not-true, not-false}
+use borrow.Author.Tests.{leb-true, ltb-true, eqb-true, le-leb, lt-ltb, eq-eqb, ne-eqb, not-true}
 use Rattle.definition.specs.Tests.{if_then_else_, Each, none, more, everyBelow}
 use Rattle.definition.specs.Limits.{allSlots}
-use Rattle.definition.specs.Board.{Board, Areas, noAreas, noDriver, subscribe, areasAt, installed, hasSlot, isShared, placeOf, goodBoard}
-use Rattle.definition.specs.State.{Pair, null, isNull, Upcall, noUpcall, Status, running, waiting, exited, isExited, Process, noProcess, held, cleared, Claim, free, State, fresh}
-use Rattle.definition.specs.Decide.{Action, Outcome, decide}
-use Rattle.definition.specs.World.{World, Step, own, latch, Out, processAt, processAfter, viewOf, perform, latchRefusal, latchStep, step}
+use Rattle.definition.specs.Board.{Board, Areas, noAreas, subscribe, areasAt, installed, hasSlot, isShared, goodBoard}
+use Rattle.definition.specs.State.{Pair, null, isNull, Upcall, noUpcall, Status, running, waiting, exited, isExited, Process, noProcess, held, cleared, Claim, free, State}
+use Rattle.definition.specs.World.{own, latch, processAt}
 use Rattle.definition.specs.WellFormed.{goodSlot, goodUpcall, isCleared, goodProcess, mayOwn, goodClaim, goodState}
-use Rattle.laws.specs.Facts.{clash, either, both, implied, implies, or-false, or-right, each-holds, all-hold, below-at, at-below, passed, set-each, getD-same}
-use Rattle.laws.specs.Why.{Why, why}
+use Rattle.laws.specs.Facts.{clash, both, implied, implies, or-false, or-right, each-holds, all-hold, below-at, at-below, getD-same}
 use Rattle.laws.specs.Slots.{slot-null}
-use Rattle.laws.specs.Fit.{Carried, Fits, cleared-fits, fits-after}
+use Rattle.laws.specs.Fit.{Carried, Fits}
+use Rattle.laws.specs.FitAfter.{cleared-fits}
 use Rattle.laws.specs.Boards.{ground, off-areas}
-use Rattle.laws.specs.Claims.{Owner, ClaimFits, ClaimsFit, free-fits, claims-fit-after, claims-length}
+use Rattle.laws.specs.Claims.{Owner, ClaimFits, ClaimsFit, free-fits}
 
 pub record Good (s : State) : Type 0 where
   pub board : goodBoard (s .board) ≡ true
@@ -29,74 +28,6 @@ pub record Good (s : State) : Type 0 where
   pub each : (p : ℕ) → Fits (s .board) (areasAt (s .board) p) (processAt s p)
   pub claimCount : length (s .claims) ≡ length (s .board .drivers)
   pub claims : ClaimsFit (s .board) (s .processes) (s .claims)
-
--- ---- a step keeps a state good
-
--- what a process's own step is decided to do
-abbrev pub decided : ℕ → Action → World → Outcome
-decided p a w = decide (viewOf w p) (processAt (w .state) p) a
-
-pub decided-why : (p : ℕ) (a : Action) (w : World) → Why (viewOf w p) (processAt (w .state) p) a (decided p a w)
-decided-why p a w = why (viewOf w p) (processAt (w .state) p) a
-
-module _ (p : ℕ) (a : Action) (w : World) (g : Good (w .state)) where
-  pub own-fits : Fits (w .state .board) (areasAt (w .state .board) p) (processAfter (areasAt (w .state .board) p) (processAt (w .state) p) (decided p a w))
-  unfolding viewOf
-  own-fits = fits-after (viewOf w p) (processAt (w .state) p) (ground (w .state .board) (g .board) p) (g .each p) a (decided p a w) (decided-why p a w)
-
-  own-good : Good (step (own p a) w .after .state)
-  unfolding step perform viewOf
-  own-good = record {
-    board = g .board;
-    count = length-set (w .state .processes) p _ ∙ g .count;
-    each = λ q. set-each (Fits (w .state .board) (areasAt (w .state .board) q)) (w .state .processes) p q _ noProcess
-        (λ e. subst (λ k. Fits (w .state .board) (areasAt (w .state .board) k) (processAfter (areasAt (w .state .board) p) (processAt (w .state) p) (decided p a w))) e own-fits) (g .each q);
-    claimCount = claims-length p (decided p a w) (w .state .claims) ∙ g .claimCount;
-    claims = claims-fit-after (viewOf w p) (w .state .processes) (w .state .claims) (g .claims) a (decided p a w) (decided-why p a w);
-  }
-
-latch-good : (driver peak : ℕ) (w : World) → Good (w .state) → Good (latchStep driver peak w .after .state)
-unfolding latchStep latchRefusal
-latch-good driver peak w g = either (λ (o : Out World). Good (o .after .state)) (eqb (latchRefusal b k) 0) _ _ done λ _. g
-  where
-    b : Board
-    b = w .state .board
-
-    k : ℕ
-    k = placeOf (b .drivers) driver
-
-    claims : List Claim
-    claims = w .state .claims
-
-    new : Claim
-    new = record { owner = getD claims k free .owner; latch = peak }
-
-    done : eqb (latchRefusal b k) 0 ≡ true → Good (record { board = b; processes = w .state .processes; claims = set claims k new })
-    done e =
-        let shared : isShared b k ≡ true = not-false _ (passed _ _ _ (passed _ _ _ (eqb-true _ 0 e) .1) .0) in
-        record {
-          board = g .board;
-          count = g .count;
-          each = g .each;
-          claimCount = length-set claims k new ∙ g .claimCount;
-          claims = λ i. set-each (ClaimFits b (w .state .processes) i) claims k i new free
-              (λ q. record { unshared = λ u. clash (subst (λ m. isShared b m ≡ true) q shared) u; owned = λ p o. subst (λ m. Owner b (w .state .processes) m p) q (g .claims k .owned p o) }) (g .claims i);
-        }
-
-pub step-keeps : (s : Step) (w : World) → Good (w .state) → Good (step s w .after .state)
-unfolding step
-step-keeps (own p a) w g = own-good p a w g
-step-keeps (latch driver peak) w g = latch-good driver peak w g
-
-pub fresh-good : (b : Board) → goodBoard b ≡ true → Good (fresh b)
-unfolding fresh
-fresh-good b g = record {
-  board = g;
-  count = length-map (b .processes) (λ a. cleared a running);
-  each = λ p. rw (List·getD-map (λ a. cleared a running) (b .processes) p noAreas) (cleared-fits b (areasAt b p) running (ground b g p) (λ q. clash q refl));
-  claimCount = length-map (b .drivers) (λ d. free);
-  claims = λ k. rw (List·getD-map (λ d. free) (b .drivers) k noDriver) (free-fits b _ k);
-}
 
 -- ---- the tests of a process
 
@@ -190,7 +121,7 @@ module _ (b : Board) (a : Areas) (process : Process) where
         size = size;
         slots = λ i. elim (decLt i allSlots) [
           | yes lt ↦ below-at allSlots (λ i. goodSlot b a (process .break) i (getD (process .slots) i null)) (h .1 .1 .1 .0) i lt
-          | no ge ↦ rw (List·getD-eq-default (process .slots) null {n = i} (omega arith)) (slot-null b a (process .break) i)
+          | no ge ↦ rw (List·getD-eq-default (process .slots) null {n = i} (omega arith)) (slot-null b a (process .break) i null refl)
         ];
         room = leb-true _ _ (h .1 .1 .1 .1 .0);
         queued = each-of (goodUpcall b process) (Carried b (process .slots)) noUpcall (carried-of b process) (process .queue) (h .1 .1 .1 .1 .1 .0);
@@ -305,7 +236,3 @@ module _ (s : State) where
           ),
         ),
       )
-
--- a step from a good state leaves a good state
-pub kept-good : (s : Step) (w : World) → goodState (w .state) ≡ true → goodState (step s w .after .state) ≡ true
-kept-good s w e = of-good _ (step-keeps s w (good-of (w .state) e))

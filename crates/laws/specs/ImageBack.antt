@@ -8,24 +8,23 @@ use native.Mathlib.Omega.{arith}
 use lib.ListN.{length, getD, length-append}
 use lib.Dec.{eqb}
 use borrow.Author.Tests.{eqb-true, eq-eqb, leb-true}
-use Rattle.definition.specs.Limits.{maxProcesses, maxDrivers, areasWords, driverWords}
-use Rattle.definition.specs.Board.{noAreas, areasAt, noDriver, goodBoard}
+use Rattle.definition.specs.Limits.{maxProcesses, maxDrivers}
+use Rattle.definition.specs.Board.{areasAt, goodBoard}
 use Rattle.definition.specs.State.{noProcess, free, State}
 use Rattle.definition.specs.World.{processAt}
 use Rattle.definition.specs.WellFormed.{goodProcess, goodState}
 use Rattle.definition.specs.Words.{part, sameWords, tabulate, grid}
-use Rattle.definition.specs.Image.{wordsOfAreas, readAreas, wordsOfDriver, readDriver, claimWords, readClaim, wordsInClaim, processWords, readProcess, runWords, areasFrom, driversFrom, claimsFrom, runsFrom, tableWords, imageOf, runOf, stateOf, wellFormed}
+use Rattle.definition.specs.Image.{claimWords, readClaim, wordsInClaim, processWords, readProcess, runWords, driversFrom, boardWords, boardAt, claimsFrom, runsFrom, tableWords, imageOf, runOf, stateOf, wellFormed}
 use Rattle.laws.specs.Facts.{clash, both, and, each-holds, below-at}
 use Rattle.laws.specs.Rows.{tab-read, part-at, part-all, part-skip, grid-length, grid-row}
-use Rattle.laws.specs.Codec.{first-of, areas-back, driver-back, claim-back, process-length, process-back, Sized}
+use Rattle.laws.specs.Codec.{claim-back, process-length, process-back, Sized}
+use Rattle.laws.specs.BoardWords.{board-length, board-back}
+use Rattle.laws.specs.BoardWords as BoardWords
 
--- ---- the parts of the image
+-- ---- the parts of the image: the board, the claims, the runs
 
-abbrev pub areasIn : State → List ℕ
-areasIn s = grid wordsOfAreas noAreas maxProcesses (s .board .processes)
-
-abbrev pub driversIn : State → List ℕ
-driversIn s = grid wordsOfDriver noDriver maxDrivers (s .board .drivers)
+abbrev pub boardIn : State → List ℕ
+boardIn s = boardWords maxProcesses maxDrivers (s .board)
 
 abbrev pub claimsIn : State → List ℕ
 claimsIn s = grid claimWords free maxDrivers (s .claims)
@@ -33,83 +32,41 @@ claimsIn s = grid claimWords free maxDrivers (s .claims)
 abbrev pub runsIn : State → List ℕ
 runsIn s = grid processWords noProcess maxProcesses (s .processes)
 
--- what stands from the claims on, from the drivers on, and from the number of drivers on
-abbrev fromClaims : State → List ℕ
-fromClaims s = claimsIn s ++ runsIn s
-
-abbrev fromDrivers : State → List ℕ
-fromDrivers s = driversIn s ++ fromClaims s
-
-abbrev fromCount : State → List ℕ
-fromCount s = (length (s .board .drivers) ∷ []) ++ fromDrivers s
-
 module _ (s : State) where
-  areas-length : length (areasIn s) ≡ maxProcesses * areasWords
-  areas-length = grid-length wordsOfAreas noAreas areasWords (λ x. refl) maxProcesses (s .board .processes)
+  pub in-three : imageOf s ≡ boardIn s ++ (claimsIn s ++ runsIn s)
+  unfolding imageOf
+  in-three = refl
 
-  drivers-length : length (driversIn s) ≡ maxDrivers * driverWords
-  drivers-length = grid-length wordsOfDriver noDriver driverWords (λ x. refl) maxDrivers (s .board .drivers)
+  pub board-in : length (boardIn s) ≡ claimsFrom
+  board-in = board-length maxProcesses maxDrivers (s .board)
 
-  claims-length : length (claimsIn s) ≡ maxDrivers * wordsInClaim
+  pub claims-length : length (claimsIn s) ≡ maxDrivers * wordsInClaim
   claims-length = grid-length claimWords free wordsInClaim (λ x. refl) maxDrivers (s .claims)
 
   runs-length : length (runsIn s) ≡ maxProcesses * runWords
   runs-length = grid-length processWords noProcess runWords process-length maxProcesses (s .processes)
 
   pub image-length : length (imageOf s) ≡ tableWords
-  unfolding imageOf
-  image-length = simp length-append (omega (arith, areas-length, drivers-length, claims-length, runs-length))
+  image-length = ap length in-three ∙ simp length-append (omega (arith, board-in, claims-length, runs-length))
 
   pub processes-count : getD (imageOf s) 0 0 ≡ length (s .board .processes)
-  unfolding imageOf
-  processes-count = refl
-
-  pub areas-part : part areasFrom (maxProcesses * areasWords) (imageOf s) ≡ areasIn s
-  unfolding imageOf
-  areas-part =
-      part-skip (length (s .board .processes) ∷ []) (areasIn s ++ fromCount s) areasFrom 0 (maxProcesses * areasWords) refl
-      ∙ part-at (areasIn s) (fromCount s) (maxProcesses * areasWords) areas-length
-
-  past-areas : (b n : ℕ) → part (driversFrom + b) n (imageOf s) ≡ part b n (fromCount s)
-  unfolding imageOf
-  past-areas b n =
-      ap (λ (k : ℕ). part k n (imageOf s)) (omega arith)
-      ∙ part-skip (length (s .board .processes) ∷ []) (areasIn s ++ fromCount s) areasFrom (maxProcesses * areasWords + b) n refl
-      ∙ part-skip (areasIn s) (fromCount s) (maxProcesses * areasWords) b n areas-length
+  processes-count = BoardWords.processes-count maxProcesses maxDrivers (s .board) (imageOf s) (claimsIn s ++ runsIn s) in-three
 
   pub drivers-count : getD (imageOf s) driversFrom 0 ≡ length (s .board .drivers)
-  unfolding part
-  drivers-count = first-of (imageOf s) (length (s .board .drivers) ∷ []) driversFrom 1 (past-areas 0 1) (omega arith)
-
-  past-count : (b n : ℕ) → part (driversFrom + 1 + b) n (imageOf s) ≡ part b n (fromDrivers s)
-  past-count b n =
-      ap (λ (k : ℕ). part k n (imageOf s)) (omega arith) ∙ past-areas (1 + b) n
-      ∙ part-skip (length (s .board .drivers) ∷ []) (fromDrivers s) 1 b n refl
-
-  pub drivers-part : part (driversFrom + 1) (maxDrivers * driverWords) (imageOf s) ≡ driversIn s
-  drivers-part = past-count 0 (maxDrivers * driverWords) ∙ part-at (driversIn s) (fromClaims s) (maxDrivers * driverWords) drivers-length
-
-  past-drivers : (b n : ℕ) → part (claimsFrom + b) n (imageOf s) ≡ part b n (fromClaims s)
-  past-drivers b n =
-      ap (λ (k : ℕ). part k n (imageOf s)) (omega arith) ∙ past-count (maxDrivers * driverWords + b) n
-      ∙ part-skip (driversIn s) (fromClaims s) (maxDrivers * driverWords) b n drivers-length
+  drivers-count = BoardWords.drivers-count maxProcesses maxDrivers (s .board) (imageOf s) (claimsIn s ++ runsIn s) in-three
 
   pub claims-part : part claimsFrom (maxDrivers * wordsInClaim) (imageOf s) ≡ claimsIn s
-  claims-part = past-drivers 0 (maxDrivers * wordsInClaim) ∙ part-at (claimsIn s) (runsIn s) (maxDrivers * wordsInClaim) claims-length
+  claims-part =
+      ap (part claimsFrom (maxDrivers * wordsInClaim)) in-three ∙ part-skip (boardIn s) (claimsIn s ++ runsIn s) claimsFrom 0 (maxDrivers * wordsInClaim) board-in
+      ∙ part-at (claimsIn s) (runsIn s) (maxDrivers * wordsInClaim) claims-length
 
   pub runs-part : part runsFrom (maxProcesses * runWords) (imageOf s) ≡ runsIn s
   runs-part =
-      past-drivers (maxDrivers * wordsInClaim) (maxProcesses * runWords)
+      ap (part runsFrom (maxProcesses * runWords)) in-three ∙ part-skip (boardIn s) (claimsIn s ++ runsIn s) claimsFrom (maxDrivers * wordsInClaim) (maxProcesses * runWords) board-in
       ∙ part-skip (claimsIn s) (runsIn s) (maxDrivers * wordsInClaim) 0 (maxProcesses * runWords) claims-length
       ∙ part-all (runsIn s) (maxProcesses * runWords) runs-length
 
-  -- one process's areas and its run, one driver and its claim
-  pub areas-at : (p : ℕ) → p < maxProcesses → part (areasFrom + p * areasWords) areasWords (imageOf s) ≡ wordsOfAreas (getD (s .board .processes) p noAreas)
-  areas-at p h = grid-row wordsOfAreas noAreas areasWords (λ x. refl) maxProcesses (s .board .processes) (imageOf s) areasFrom p areas-part h
-
-  pub driver-at : (k : ℕ) → k < maxDrivers → part (driversFrom + 1 + k * driverWords) driverWords (imageOf s) ≡ wordsOfDriver (getD (s .board .drivers) k noDriver)
-  driver-at k h = grid-row wordsOfDriver noDriver driverWords (λ x. refl) maxDrivers (s .board .drivers) (imageOf s) (driversFrom + 1) k drivers-part h
-
+  -- one driver's claim, and one process's run
   pub claim-at : (k : ℕ) → k < maxDrivers → part (claimsFrom + k * wordsInClaim) wordsInClaim (imageOf s) ≡ claimWords (getD (s .claims) k free)
   claim-at k h = grid-row claimWords free wordsInClaim (λ x. refl) maxDrivers (s .claims) (imageOf s) claimsFrom k claims-part h
 
@@ -132,15 +89,14 @@ unfolding stateOf
 state-back s g =
     let few : length (s .board .processes) ≤ maxProcesses = g .processes in
     let few′ : length (s .board .drivers) ≤ maxDrivers = g .drivers in
-    let areas : tabulate (length (s .board .processes)) (λ p. readAreas (imageOf s) (areasFrom + p * areasWords)) ≡ s .board .processes =
-    tab-read _ _ (s .board .processes) noAreas refl (λ p h. areas-back (imageOf s) (areasFrom + p * areasWords) (getD (s .board .processes) p noAreas) (areas-at s p (omega arith))) in
-    let drivers : tabulate (length (s .board .drivers)) (λ k. readDriver (imageOf s) (driversFrom + 1 + k * driverWords)) ≡ s .board .drivers =
-    tab-read _ _ (s .board .drivers) noDriver refl (λ k h. driver-back (imageOf s) (driversFrom + 1 + k * driverWords) (getD (s .board .drivers) k noDriver) (driver-at s k (omega arith))) in
+    let board : boardAt (imageOf s) driversFrom ≡ s .board = board-back maxProcesses maxDrivers (s .board) (imageOf s) (claimsIn s ++ runsIn s) (in-three s) few few′ in
     let claims : tabulate (length (s .board .drivers)) (λ k. readClaim (imageOf s) (claimsFrom + k * wordsInClaim)) ≡ s .claims =
     tab-read _ _ (s .claims) free (g .claims) (λ k h. claim-back (imageOf s) (claimsFrom + k * wordsInClaim) (getD (s .claims) k free) (claim-at s k (omega arith))) in
     let processes : tabulate (length (s .board .processes)) (λ p. readProcess (runOf (imageOf s) p)) ≡ s .processes =
     tab-read _ _ (s .processes) noProcess (g .runs) (λ p h. ap readProcess (run-at s p (omega arith)) ∙ process-back (getD (s .processes) p noProcess) (g .sized p h)) in
-    rw (processes-count s, drivers-count s) (λ i. record { board = record { processes = areas i; drivers = drivers i }; processes = processes i; claims = claims i })
+    let claims′ : tabulate (getD (imageOf s) driversFrom 0) (λ k. readClaim (imageOf s) (claimsFrom + k * wordsInClaim)) ≡ s .claims = rw (drivers-count s) claims in
+    let processes′ : tabulate (getD (imageOf s) 0 0) (λ p. readProcess (runOf (imageOf s) p)) ≡ s .processes = rw (processes-count s) processes in
+    λ i. record { board = board i; processes = processes′ i; claims = claims′ i }
 
 -- a good state fits
 pub shaped : (s : State) → goodState s ≡ true → Shaped s

@@ -1,29 +1,30 @@
 -- Slots: where they stand, what they may hold, and what a moved break leaves of that.
 use Prim.Native.Nat.{ℕ, _+_, _*_, _≤_, _<_}
-use mathlib.Core.Path.{_≡_, refl, sym, ap, _∙_, subst}
-use mathlib.Core.Bool.{Bool, true, false, _||_, not}
+use mathlib.Core.Path.{_≡_, sym, ap, _∙_, subst}
+use mathlib.Core.Bool.{Bool, true, false}
 use native.Mathlib.Omega.{arith}
 use lib.Dec.{leb, ltb, eqb}
-use borrow.Author.Tests.{leb-true, eqb-true, lt-ltb, le-ltb}
+use borrow.Author.Tests.{leb-true, lt-ltb, le-ltb, ne-eqb}
 use Rattle.definition.specs.Tests.{if_then_else_, within}
 use Rattle.definition.specs.Limits.{maxDrivers, maxSlots, kindSlots, allSlots}
 use Rattle.definition.specs.Board.{Board, Areas, Kind, subscribe, readWrite, readOnly, driverAt, slotsOf, hasSlot}
 use Rattle.definition.specs.State.{Pair, null, isNull, kindNumber, slotAt}
-use Rattle.definition.specs.Area.{Area, empty, inRam, inFlash, outside, areaOf, accessible, holdable, isInRam, clears}
+use Rattle.definition.specs.Area.{Area, holdable, clears}
 use Rattle.definition.specs.WellFormed.{kindAt, placeAt, numberAt, goodSlot}
-use Rattle.laws.specs.Facts.{clash, either, both, within-true, true-within}
+use Rattle.laws.specs.Facts.{clash, either, both, or-false, or-left, or-then, or-else, within-true, true-within}
+use Rattle.laws.specs.Areas.{isNone, isRam, writable-by, readable-by, ram-by}
 
 -- ---- where a slot stands
+
+pub kind-bound : (kind : Kind) → kindNumber kind < 3
+kind-bound subscribe = omega arith
+kind-bound readWrite = omega arith
+kind-bound readOnly = omega arith
 
 module _ (kind : Kind) (k j : ℕ) (hk : k < maxDrivers) (hj : j < maxSlots) where
   pub slot-bound : slotAt kind k j < allSlots
   unfolding slotAt
-  slot-bound = go kind
-    where
-      go : (kind : Kind) → (kindNumber kind * maxDrivers + k) * maxSlots + j < allSlots
-      go subscribe = omega arith
-      go readWrite = omega arith
-      go readOnly = omega arith
+  slot-bound = omega (arith, kind-bound kind)
 
   number-at : numberAt (slotAt kind k j) ≡ j
   unfolding slotAt
@@ -62,16 +63,16 @@ slot-one kind kind′ k j k′ j′ hk hj hk′ hj′ e = record {
 
 -- ---- what a slot may hold
 
-pub null-holdable : (kind : Kind) (a : Areas) (break : ℕ) → holdable kind a break null ≡ true
-unfolding holdable accessible areaOf if_then_else_
-null-holdable subscribe a break = refl
-null-holdable readWrite a break = refl
-null-holdable readOnly a break = refl
+pub null-holdable : (kind : Kind) (a : Areas) (break : ℕ) (x : Pair) → isNull x ≡ true → holdable kind a break x ≡ true
+unfolding holdable
+null-holdable subscribe a break x e = or-left _ _ (both (eqb (x .first) 0) (eqb (x .second) 0) e .0)
+null-holdable readWrite a break x e = writable-by a break x ∙ or-left _ _ (both (eqb (x .first) 0) (eqb (x .second) 0) e .1)
+null-holdable readOnly a break x e = readable-by a break x ∙ or-left _ _ (both (eqb (x .first) 0) (eqb (x .second) 0) e .1)
 
 module _ (b : Board) (a : Areas) (break i : ℕ) where
-  pub slot-null : goodSlot b a break i null ≡ true
+  pub slot-null : (x : Pair) → isNull x ≡ true → goodSlot b a break i x ≡ true
   unfolding goodSlot
-  slot-null = either (λ t. t ≡ true) (hasSlot (kindAt i) b (placeAt i) (numberAt i)) _ _ (λ _. null-holdable (kindAt i) a break) λ _. refl
+  slot-null x e = either (λ t. t ≡ true) (hasSlot (kindAt i) b (placeAt i) (numberAt i)) _ _ (λ _. null-holdable (kindAt i) a break x e) (λ _. e)
 
   -- whatever a good slot holds, its kind may hold
   pub slot-holdable : (x : Pair) → goodSlot b a break i x ≡ true → holdable (kindAt i) a break x ≡ true
@@ -80,10 +81,7 @@ module _ (b : Board) (a : Areas) (break i : ℕ) where
     where
       go : (t : Bool) → (if t then holdable (kindAt i) a break x else isNull x) ≡ true → holdable (kindAt i) a break x ≡ true
       go true q = q
-      go false q = let (p1, p2) = both (eqb (x .first) 0) (eqb (x .second) 0) q in subst (λ y. holdable (kindAt i) a break y ≡ true) (nothing (eqb-true _ _ p1) (eqb-true _ _ p2)) (null-holdable (kindAt i) a break)
-        where
-          nothing : x .first ≡ 0 → x .second ≡ 0 → null ≡ x
-          nothing e f = λ n. record { first = sym e n; second = sym f n }
+      go false q = null-holdable (kindAt i) a break x q
 
   -- a good slot stays good where what it holds may still be held
   pub slot-carry : (new : ℕ) (x : Pair) → (holdable (kindAt i) a break x ≡ true → holdable (kindAt i) a new x ≡ true) → goodSlot b a break i x ≡ true → goodSlot b a new i x ≡ true
@@ -114,57 +112,19 @@ held-holdable kind b a break k j x hk hj e = subst (λ n. holdable n a break x �
 
 -- ---- a buffer, and a break that moves
 
--- an area, by the tests for empty, in RAM and in flash
-abbrev pub areaBy : (none ram flash : Bool) → Area
-areaBy none ram flash = if none then empty else if ram then inRam else if flash then inFlash else outside
-
 module _ (a : Areas) (x : Pair) where
-  -- a buffer that is held in flash or is empty stays where it is; one in RAM that ends at the new break or below is still in RAM
-  area-kept : (kind : Kind) (none ram flash ram′ : Bool) → accessible kind (areaBy none ram flash) ≡ true → (not (isInRam (areaBy none ram flash)) || ram′) ≡ true
-      → accessible kind (areaBy none ram′ flash) ≡ true
-  unfolding if_then_else_ accessible
-  area-kept subscribe none ram flash ram′ h g = refl
-  area-kept readWrite true ram flash ram′ h g = refl
-  area-kept readWrite false true flash true h g = refl
-  area-kept readWrite false true flash false h g = clash g refl
-  area-kept readWrite false false true ram′ h g = clash h refl
-  area-kept readWrite false false false ram′ h g = clash h refl
-  area-kept readOnly true ram flash ram′ h g = refl
-  area-kept readOnly false true flash true h g = refl
-  area-kept readOnly false true flash false h g = clash g refl
-  area-kept readOnly false false true true h g = refl
-  area-kept readOnly false false true false h g = refl
-  area-kept readOnly false false false ram′ h g = clash h refl
-
-  -- in RAM below the old break and ending at the new one or below
-  ram-kept : (break new : ℕ) (none flash : Bool) → (not (isInRam (areaBy none (within (a .ramStart) break (x .first) (x .second)) flash)) || leb (x .first + x .second) new) ≡ true
-      → (not (isInRam (areaBy none (within (a .ramStart) break (x .first) (x .second)) flash)) || within (a .ramStart) new (x .first) (x .second)) ≡ true
-  unfolding if_then_else_
-  ram-kept break new true flash e = refl
-  ram-kept break new false flash e = go (within (a .ramStart) break (x .first) (x .second)) refl flash e
-    where
-      go : (ram : Bool) → within (a .ramStart) break (x .first) (x .second) ≡ ram → (flash : Bool)
-          → (not (isInRam (areaBy false ram flash)) || leb (x .first + x .second) new) ≡ true
-          → (not (isInRam (areaBy false ram flash)) || within (a .ramStart) new (x .first) (x .second)) ≡ true
-      go true p flash q = true-within (a .ramStart) new (x .first) (x .second) (within-true (a .ramStart) break (x .first) (x .second) p .0) (leb-true _ _ q)
-      go false p true q = refl
-      go false p false q = refl
+  -- in RAM, not empty, and let move: it ends at the new break or below
+  ram-moved : (break new : ℕ) → clears a break new x ≡ true → isNone a break x ≡ false → isRam a break x ≡ true → isRam a new x ≡ true
+  unfolding clears
+  ram-moved break new e n r = true-within (a .ramStart) new (x .first) (x .second) (within-true (a .ramStart) break (x .first) (x .second) r .0) (leb-true _ _ (rw (ram-by a break x, n, r) at e))
 
   -- what a slot may hold, it may hold under a break that it lets move
   pub moved-holdable : (kind : Kind) (break new : ℕ) → clears a break new x ≡ true → holdable kind a break x ≡ true → holdable kind a new x ≡ true
-  unfolding holdable areaOf clears
+  unfolding holdable
   moved-holdable subscribe break new e h = h
-  moved-holdable readWrite break new e h = area-kept readWrite _ _ _ _ h (ram-kept break new _ _ e)
-  moved-holdable readOnly break new e h = area-kept readOnly _ _ _ _ h (ram-kept break new _ _ e)
+  moved-holdable readWrite break new e h = writable-by a new x ∙ or-then _ _ _ (ram-moved break new e) (sym (writable-by a break x) ∙ h)
+  moved-holdable readOnly break new e h = readable-by a new x ∙ or-then _ _ _ (λ n. or-else _ _ _ (ram-moved break new e n)) (sym (readable-by a break x) ∙ h)
 
   -- a non-empty read-write buffer lies in RAM below the break
   pub writable-inside : (break : ℕ) → holdable readWrite a break x ≡ true → 0 < x .second → (a .ramStart ≤ x .first) × (x .first + x .second ≤ break)
-  unfolding holdable areaOf accessible if_then_else_
-  writable-inside break e h = go (eqb (x .second) 0) (within (a .ramStart) break (x .first) (x .second)) (within (a .flashStart) (a .flashEnd) (x .first) (x .second)) refl refl e
-    where
-      go : (none ram flash : Bool) → eqb (x .second) 0 ≡ none → within (a .ramStart) break (x .first) (x .second) ≡ ram
-          → accessible readWrite (areaBy none ram flash) ≡ true → (a .ramStart ≤ x .first) × (x .first + x .second ≤ break)
-      go true ram flash p q i = let z = eqb-true (x .second) 0 p in omega arith
-      go false true flash p q i = within-true (a .ramStart) break (x .first) (x .second) q
-      go false false true p q i = clash i refl
-      go false false false p q i = clash i refl
+  writable-inside break e h = within-true (a .ramStart) break (x .first) (x .second) (or-false _ _ (sym (writable-by a break x) ∙ e) (ne-eqb (x .second) 0 (λ z. omega arith)))

@@ -18,7 +18,7 @@ use Rattle.definition.specs.Table.{Lent, tableStep, start, worldOf, lentOf}
 use Rattle.laws.specs.Facts.{clash, either, passed}
 use Rattle.laws.specs.Why.{Why, Because, Left, ended, again}
 use Rattle.laws.specs.Stores.{store-nothing}
-use Rattle.laws.specs.Good.{decided, decided-why}
+use Rattle.laws.specs.Kept.{decided, decided-why}
 use Rattle.laws.specs.ImageBack.{image-again}
 
 deliver-tells : (x : Answer) (q : List Upcall) → changesNothing x ≡ false → changesNothing (deliver x q) ≡ false

@@ -8,13 +8,13 @@ use mathlib.Core.Bool.{Bool, true, false, _||_, not}
 use mathlib.Core.List.{List, [], _∷_}
 use native.Mathlib.Omega.{arith}
 use lib.Dec.{leb, ltb, eqb}
-use borrow.Author.Tests.{ltb-true, ltb-false, le-leb, lt-leb, ne-eqb}
+use borrow.Author.Tests.{ltb-true, ltb-false, lt-leb}
 use Rattle.definition.specs.Tests.{if_then_else_}
 use Rattle.definition.specs.Limits.{bufferSlots}
 use Rattle.definition.specs.Board.{Kind, subscribe, readWrite, readOnly, driverAt, slotsOf, installed, isShared, hasSlot, permits}
 use Rattle.definition.specs.State.{Pair, Upcall, held, Claim}
 use Rattle.definition.specs.Answer.{Answer, waits, nothing, success, successWith1, successWith2, failure, RESERVE, NOSUPPORT, isAccepted}
-use Rattle.definition.specs.Call.{pair, Decoded, known, aside, exchange, command, bound, exitTerminate, exitRestart, decode, decodeYield, decodeMemop, decodeExit, classOf}
+use Rattle.definition.specs.Call.{Decoded, known, aside, exchange, command, bound, exitTerminate, exitRestart, decode, decodeYield, decodeMemop, decodeExit, classOf}
 use Rattle.definition.specs.Area.{breakClears}
 use Rattle.definition.specs.Decide.{Outcome, answers, notInstalled, decideExchange, decideCommand, decideBreak, decideBreakBy, boundOf, decideKnown, decideCall, decideAccepted, decide}
 use Rattle.definition.specs.World.{World, deliver, owns, commandAnswer, answerOf, viewOf, perform, step}
@@ -24,6 +24,7 @@ use Rattle.promises.specs.Accepted.{areasIn, processIn, claimIn, bufferI
 use Rattle.promises.specs.Promises.{Acceptance}
 use Rattle.promises.specs.Told.{Tells, le-told, lt-told, eq-told, not-told, or-told, all-told, none-told, every-told, if-told, unless-told, if-holds, unless-holds}
 use Rattle.promises.specs.Conditions.{accepts-told, clears-told, running-told, answerBy, call-answer, placeTo, one-place, at-place, MayMove, moves-of, may-move, moved-up, moved-down}
+use Rattle.promises.specs.Decodes.{above, decode-bound, decode-command, decode-exchange, decode-yield, other-class, other-memop}
 
 -- ---- successes
 
@@ -55,38 +56,6 @@ not-installed readOnly x = refl
 delivery-none : (x : Answer) (q : List Upcall) → isAccepted x ≡ false → isAccepted (deliver x q) ≡ false
 delivery-none x [] e = e
 delivery-none x (u ∷ q) e = refl
-
--- ---- how the registers are read
-
-decode-exchange : (kind : Kind) (driver j x y : ℕ) → decode (classOf kind) driver j x y ≡ known (exchange kind driver j (pair x y))
-unfolding decode if_then_else_
-decode-exchange subscribe driver j x y = refl
-decode-exchange readWrite driver j x y = refl
-decode-exchange readOnly driver j x y = refl
-
-decode-command : (driver number x y : ℕ) → decode 2 driver number x y ≡ known (command driver number x y)
-unfolding decode if_then_else_
-decode-command driver number x y = refl
-
-decode-yield : (number address x y : ℕ) → decode 0 number address x y ≡ decodeYield number address
-unfolding decode if_then_else_
-decode-yield number address x y = refl
-
--- numbers past those that are known
-above : (n k : ℕ) → k < n → eqb n k ≡ false
-above n k h = ne-eqb n k (λ e. omega arith)
-
-decode-bound : (operation x y z : ℕ) → 2 ≤ operation → operation ≤ 6 → decode 5 operation x y z ≡ known (bound operation)
-unfolding decode decodeMemop if_then_else_
-decode-bound n x y z h g = rw (above n 0 (omega arith), above n 1 (omega arith), le-leb n 6 g)
-
-other-memop : (operation x y z : ℕ) → 6 < operation → decode 5 operation x y z ≡ aside (failure NOSUPPORT)
-unfolding decode decodeMemop if_then_else_
-other-memop n x y z h = rw (above n 0 (omega arith), above n 1 (omega arith), lt-leb n 6 h)
-
-other-class : (class r0 r1 r2 r3 : ℕ) → 6 < class → decode class r0 r1 r2 r3 ≡ aside (failure NOSUPPORT)
-unfolding decode if_then_else_
-other-class n r0 r1 r2 r3 h = rw (above n 0 (omega arith), above n 1 (omega arith), above n 2 (omega arith), above n 3 (omega arith), above n 4 (omega arith), above n 5 (omega arith), above n 6 h)
 
 -- ---- each call, for any S that holds of successes only
 

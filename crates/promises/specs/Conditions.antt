@@ -3,7 +3,7 @@
 use Prim.Native.Nat.{ℕ, _+_, _-_, _/_, _%_, _^_, _≤_, _<_}
 use mathlib.Core.Path.{_≡_, refl, sym, ap, subst}
 use mathlib.Core.Logic.{_↔_, _≢_, inl, inr, Iff·trans}
-use mathlib.Core.Bool.{Bool, true, false, _&&_, _||_, not}
+use mathlib.Core.Bool.{true, false, not}
 use native.Mathlib.Omega.{arith}
 use lib.ListN.{length}
 use borrow.Author.Tests.{ltb-true, lt-ltb, not-false}
@@ -13,38 +13,31 @@ use Rattle.definition.specs.Board.{Areas, Kind, subscribe, readWrite, readOnly,
 use Rattle.definition.specs.State.{Pair, Status, running, waiting, exited, isExited, isWaiting, Process}
 use Rattle.definition.specs.Answer.{Answer}
 use Rattle.definition.specs.Call.{pair, decode}
-use Rattle.definition.specs.Area.{areaOf, accessible, holdable, accepts, isInRam, clears}
+use Rattle.definition.specs.Area.{areaOf, holdable, accepts, isInRam, clears}
 use Rattle.definition.specs.Decide.{call, resume, Outcome, decideCall, decideAccepted, refusal, decide}
 use Rattle.definition.specs.World.{World, answerOf, viewOf, perform, step}
 use Rattle.definition.specs.WellFormed.{goodState}
 use Rattle.laws.specs.Facts.{clash, each-holds, passed, pass, pass-none}
-use Rattle.laws.specs.Slots.{areaBy}
+use Rattle.laws.specs.Areas.{writable-by, readable-by, ram-by}
 use Rattle.laws.specs.Places.{place-number, number-place}
 use Rattle.promises.specs.Accepted.{areasIn, processIn, bufferIn, answerTo, IsRunning, Permitted, Lies, MayHold, BreakMoves, MovedBy}
 use Rattle.promises.specs.Told.{Tells, le-told, eq-told, within-told, contains-told, not-told, and-told, or-told, implies-told}
 
 -- ---- what a slot may hold, and when the break may move
 
-area-tests : (s t u : Bool) → (accessible readWrite (areaBy s t u) ≡ (s || t)) × (accessible readOnly (areaBy s t u) ≡ (s || (t || u))) × (isInRam (areaBy s t u) ≡ (not s && t))
-unfolding accessible if_then_else_
-area-tests true t u = (refl, refl, refl)
-area-tests false true u = (refl, refl, refl)
-area-tests false false true = (refl, refl, refl)
-area-tests false false false = (refl, refl, refl)
-
 pub accepts-told : (kind : Kind) (a : Areas) (process : Process) (x y : ℕ) → Tells (accepts kind a process (pair x y)) (MayHold kind a (process .break) x y)
-unfolding accepts holdable areaOf
+unfolding accepts holdable
 accepts-told subscribe a process x y = or-told _ _ (eq-told x 0) (contains-told _ _ _)
-accepts-told readWrite a process x y = rw (area-tests _ _ _ .0) (or-told _ _ (eq-told y 0) (within-told _ _ _ _))
-accepts-told readOnly a process x y = rw (area-tests _ _ _ .1) (or-told _ _ (eq-told y 0) (or-told _ _ (within-told _ _ _ _) (within-told _ _ _ _)))
+accepts-told readWrite a process x y = rw (writable-by a (process .break) (pair x y)) (or-told _ _ (eq-told y 0) (within-told _ _ _ _))
+accepts-told readOnly a process x y = rw (readable-by a (process .break) (pair x y)) (or-told _ _ (eq-told y 0) (or-told _ _ (within-told _ _ _ _) (within-told _ _ _ _)))
 
 pub clears-told : (a : Areas) (break new : ℕ) (x : Pair)
     → Tells (clears a break new x) (x .second ≢ 0 → Lies (a .ramStart) break (x .first) (x .second) → x .first + x .second ≤ new)
-unfolding clears areaOf
+unfolding clears
 clears-told a break new x = Iff·trans (implies-told _ _ in-ram (le-told (x .first + x .second) new)) (λ f n l. f (n, l), λ f h. f (h .0) (h .1))
   where
     in-ram : Tells (isInRam (areaOf a break x)) ((x .second ≢ 0) × Lies (a .ramStart) break (x .first) (x .second))
-    in-ram = rw (area-tests _ _ _ .2) (and-told _ _ (not-told _ (eq-told (x .second) 0)) (within-told _ _ _ _))
+    in-ram = rw (ram-by a break x) (and-told _ _ (not-told _ (eq-told (x .second) 0)) (within-told _ _ _ _))
 
 -- ---- the process, the driver and the break, as the conditions have them
 

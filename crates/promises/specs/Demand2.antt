@@ -19,9 +19,11 @@ use Rattle.definition.specs.Runs.{isOwn, run}
 use Rattle.definition.specs.Image.{boardOf}
 use Rattle.definition.specs.Table.{Lent, wrongImage, lentOf, tableStep}
 use Rattle.laws.specs.Facts.{never, clash, either, getD-same}
-use Rattle.laws.specs.Why.{isPlain, refuse-plain, Left, Because, Why}
+use Rattle.laws.specs.Why.{isPlain, Left, Because, Why}
+use Rattle.laws.specs.Walk.{refuse-plain}
 use Rattle.laws.specs.Boards.{ground}
-use Rattle.laws.specs.Good.{Good, decided, decided-why}
+use Rattle.laws.specs.Good.{Good}
+use Rattle.laws.specs.Kept.{decided, decided-why}
 use Rattle.promises.specs.History.{Heard, heard, historyOf, isExchange, isExit, lastPair, Pending, pending, TakenIn, Delivery}
 use Rattle.promises.specs.Accepted.{processIn}
 use Rattle.promises.specs.Promises.{after, history, recordOf, upcallOf, Accounted, Accounting}

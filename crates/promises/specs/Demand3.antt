@@ -13,12 +13,14 @@ use Rattle.definition.specs.Runs.{isOwn, isNobodys, ownSteps, ownAndNobodys, ru
 use Rattle.definition.specs.Image.{boardOf}
 use Rattle.definition.specs.Table.{Lent, lentOf, start}
 use Rattle.laws.specs.Facts.{never, either, passed, or-left}
-use Rattle.laws.specs.Good.{Good, of-good, fresh-good}
+use Rattle.laws.specs.Good.{Good, of-good}
+use Rattle.laws.specs.Kept.{fresh-good}
 use Rattle.laws.specs.ImageBack.{good-back}
-use Rattle.laws.specs.BoardBack.{board-fits}
+use Rattle.laws.specs.BoardWords.{board-fits}
 use Rattle.promises.specs.Promises.{after, recordOf, ramIn, Alike, Isolated, Isolation}
 use Rattle.promises.specs.Guarded.{guarded, run-keeps, run-board, table-run, table-answers}
-use Rattle.promises.specs.Isolation.{Same, same-refl, same-sym, same-trans, Lonely, lonely, those-those, quiet-those, own-answers}
+use Rattle.promises.specs.Isolation.{Same, same-refl, same-sym, same-trans}
+use Rattle.promises.specs.IsolatedRuns.{Lonely, lonely, those-those, quiet-those, own-answers}
 
 -- ---- an accepted start
 

@@ -11,7 +11,8 @@ use Rattle.definition.specs.Runs.{run, answersTo}
 use Rattle.definition.specs.Table.{Lent, wrongImage, refuseStep, worldOf, lentOf, outOf, tableStep}
 use Rattle.laws.specs.Facts.{either}
 use Rattle.laws.specs.Stores.{length-store}
-use Rattle.laws.specs.Good.{Good, of-good, step-keeps}
+use Rattle.laws.specs.Good.{Good, of-good}
+use Rattle.laws.specs.Kept.{step-keeps}
 use Rattle.laws.specs.ImageBack.{good-back, image-well-formed}
 use Rattle.promises.specs.History.{Heard, heard, historyOf}
 

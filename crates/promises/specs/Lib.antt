@@ -6,10 +6,12 @@ pub mod Calls
 -- ---- accepted exactly when
 pub mod Told
 pub mod Conditions
+pub mod Decodes
 pub mod AcceptedExactly
 -- ---- demand 3
 pub mod Guarded
 pub mod Isolation
+pub mod IsolatedRuns
 pub mod Demand3
 pub mod LayerDemand3
 -- ---- demand 2
