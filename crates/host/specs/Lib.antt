@@ -1,2 +1,3 @@
+-- ---- the statements of the exports
 pub mod Answers
 pub mod Runs
