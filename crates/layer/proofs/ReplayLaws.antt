@@ -22,7 +22,7 @@ use Rattle.trace.specs.declared.numbers.Number.{Number}
 use Rattle.trace.specs.declared.numbers.Number.the-variants as N
 use Rattle.trace.specs.Meaning.{Boarded}
 use Rattle.trace.specs.TraceLaws.{board-end}
-use Rattle.trace.specs.Answers.{board-spoiled, board-cut}
+use Rattle.trace.specs.Answers.{board-found}
 use Rattle.lines.specs.Puts.{Put, shortLine}
 use Rattle.lines.specs.PutLaws.{put-head, put-tail, put-fits}
 use Rattle.layer.specs.declared.Progress.{Progress}
@@ -206,8 +206,8 @@ module _ (s : List ℕ) (x : Lent) (old : List ℕ) where
   unfolding Plays playBoard
   plays-broken r kept words h why new end put same =
       let none : playAt s x 0 ≡ played x (broken 0) =
-      ⊎-elim (λ e. play-board s x spoiled (board-spoiled words kept (readAt board s 0) (subst (λ r. Boarded (readAt board s 0) words r kept) e h) .0))
-      (λ e. play-board s x cut (board-cut words kept (readAt board s 0) (subst (λ r. Boarded (readAt board s 0) words r kept) e h) .0)) why in
+      ⊎-elim (λ e. play-board s x spoiled (board-found words kept (readAt board s 0) N.Broken (subst (λ r. Boarded (readAt board s 0) words r kept) e h)))
+      (λ e. play-board s x cut (board-found words kept (readAt board s 0) N.Cut (subst (λ r. Boarded (readAt board s 0) words r kept) e h))) why in
       (none ∙ ap (played x) (sym (put-head (omega arith) put)), record { within = put-fits (omega arith) put same; rest = put-tail (omega arith) put })
 
   pub plays-board : (words : List ℕ) (i : ℕ) → readAt board s 0 ≡ found words i → (r : Progress) (y : Lent) (new : List ℕ) → Goes s (playBoard s x (found words i)) i 0 old r y new → Plays s x 0 old r y new
