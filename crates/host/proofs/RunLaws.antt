@@ -1,6 +1,6 @@
 -- Laws of what a host is told of a run over a trace.
 use Prim.Native.Nat.{ℕ, _≤_, _<_}
-use mathlib.Core.Path.{_≡_, refl, sym, ap, _∙_}
+use mathlib.Core.Path.{_≡_, refl}
 use mathlib.Core.Bool.{true, false}
 use mathlib.Core.List.{List, [], _∷_, _++_}
 use native.Mathlib.Omega.{arith}
@@ -18,9 +18,6 @@ three-front [] a b c h = absurd (omega arith)
 three-front (x ∷ []) a b c h = absurd (omega arith)
 three-front (x ∷ (y ∷ [])) a b c h = absurd (omega arith)
 three-front (x ∷ (y ∷ (z ∷ out))) a b c h = refl
-
-pub progress-told : (p q : Progress) (out out′ : List ℕ) → p ≡ q → out′ ≡ progressWords q ++ drop 3 out → out′ ≡ progressWords p ++ drop 3 out
-progress-told p q out out′ e w = w ∙ ap (λ (p : Progress). progressWords p ++ drop 3 out) (sym e)
 
 module _ (s : List ℕ) (x : Lent) (at : ℕ) (lines out : List ℕ) where
   pub runs-nothing : length out < 3 → Runs s x at lines out false x lines out

@@ -13,13 +13,19 @@ use Rattle.definition.specs.Decide.{fetch}
 use Rattle.definition.specs.World.{Step, own, Out}
 use Rattle.definition.specs.Table.{Lent, tableStep}
 use Rattle.laws.specs.Unchanged.{unchanged}
+use Rattle.types.specs.declared.Answer.{Answer as Code}
 use Rattle.types.specs.declared.Image.{Image as Named}
+use Rattle.types.specs.Meaning.{answerOf}
 use Rattle.words.specs.Splice.{splice}
 use Rattle.layer.specs.declared.Place.{Place}
 use Rattle.layer.specs.Steps.{gave}
 use Rattle.layer.specs.Fetching.{numberOf, partOf, imageOf, Lies}
 use Rattle.layer.specs.StatementLaws.{fetches}
 use Rattle.host.specs.Answers.{imageWord, answerWords, placeWords, told, tell}
+
+-- words that are put at the front of out are those that they are said to be
+pub front-is : (n : ℕ) (out : List ℕ) {row words out′ : List ℕ} → row ≡ words → out′ ≡ row ++ drop n out → out′ ≡ words ++ drop n out
+front-is n out e w = w ∙ ap (λ (l : List ℕ). l ++ drop n out) e
 
 -- a row that is put at the front of out
 pub put-front : (row out : List ℕ) → length row ≡ 6 → splice 0 row out ≡ row ++ drop 6 out
@@ -40,6 +46,10 @@ module _ (step : Lent → Out Lent) (x : Lent) (out : List ℕ) where
   told-answer r x′ out′ h e w =
       let room : leb 6 (length out) ≡ true = le-leb 6 (length out) h in
       rw room (ap₂ (λ (o : Out Lent) (l : List ℕ). told true (o .after) l) e (ap (λ (o : Out Lent). answerWords (o .answer) ++ drop 6 out) e ∙ sym w))
+
+-- the words of an answer whose variant is known
+pub words-told : {a b : Code} → a ≡ b → answerWords (answerOf b) ≡ answerWords (answerOf a)
+words-told e = sym (ap (λ (a : Code). answerWords (answerOf a)) e)
 
 -- ---- of a fetch
 

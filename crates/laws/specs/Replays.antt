@@ -10,7 +10,7 @@ use borrow.Author.Tests.{lt-ltb, le-ltb, ne-eqb}
 use Rattle.definition.specs.Tests.{if_then_else_}
 use Rattle.definition.specs.Table.{Lent, tableStep, start}
 use Rattle.definition.specs.Trace.{Record, Found, found, spoiled, cut, board, oneRecord, stepOf, readAt}
-use Rattle.definition.specs.Lines.{lineOf, broken}
+use Rattle.definition.specs.Lines.{lineOf}
 use Rattle.definition.specs.Replay.{Played, played, following, playRecord, records, playFrom, isBadBoard, playBoard, replay, playAt}
 
 play-same : (f g : Lent → ℕ → Played) (x : Lent) (i : ℕ) (here : Found Record) → ((r : Record) (j : ℕ) → here ≡ found r j → (y : Lent) → f y j ≡ g y j) → playRecord f x i here ≡ playRecord g x i here
@@ -40,23 +40,16 @@ module _ (s : List ℕ) (forward : Forward s) where
     play-end h = let z : length s - i ≡ 0 = omega arith in rw z refl
 
     module _ (h : i < length s) where
-      here : (n : ℕ) → length s ≤ i + suc n → playFrom s x i ≡ playRecord (records n s) x i (readAt oneRecord s i)
+      -- by what is found there
+      pub play-here : (here : Found Record) → readAt oneRecord s i ≡ here → playFrom s x i ≡ playRecord (records (length s - i) s) x i here
       unfolding playFrom records if_then_else_
-      here n k = enough (length s - i) (suc n) x i (omega arith) k ∙ rw (lt-ltb i (length s) h) refl
+      play-here here e = enough (length s - i) (suc (length s - i)) x i (omega arith) (omega arith) ∙ rw (lt-ltb i (length s) h) (ap (playRecord (records (length s - i) s) x i) e)
 
       pub play-record : (r : Record) (j : ℕ) → readAt oneRecord s i ≡ found r j → playFrom s x i ≡ following (lineOf (tableStep (stepOf r) x .answer)) (playFrom s (tableStep (stepOf r) x .after) j)
       unfolding playFrom playRecord
       play-record r j e =
-          here (length s - i) (omega arith) ∙ ap (playRecord (records (length s - i) s) x i) e
+          play-here (found r j) e
           ∙ ap (following (lineOf (tableStep (stepOf r) x .answer))) (enough (length s - i) (length s - j) (tableStep (stepOf r) x .after) j (omega (arith, forward i r j e)) (omega arith))
-
-      pub play-spoiled : readAt oneRecord s i ≡ spoiled → playFrom s x i ≡ played x (broken i)
-      unfolding playRecord
-      play-spoiled e = here (length s - i) (omega arith) ∙ ap (playRecord (records (length s - i) s) x i) e
-
-      pub play-cut : readAt oneRecord s i ≡ cut → playFrom s x i ≡ played x (broken i)
-      unfolding playRecord
-      play-cut e = here (length s - i) (omega arith) ∙ ap (playRecord (records (length s - i) s) x i) e
 
 -- ---- from the board on, and from another place on
 

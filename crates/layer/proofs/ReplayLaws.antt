@@ -13,16 +13,12 @@ use Rattle.definition.specs.Answer.{Answer}
 use Rattle.definition.specs.World.{Out}
 use Rattle.definition.specs.Image.{wellFormed}
 use Rattle.definition.specs.Table.{Lent, start}
-use Rattle.definition.specs.Trace.{found, spoiled, cut, board, readAt}
+use Rattle.definition.specs.Trace.{Found, found, board, readAt}
 use Rattle.definition.specs.Lines.{lineOf, broken}
-use Rattle.definition.specs.Replay.{Played, played, following, playFrom, isBadBoard, playBoard, playAt}
+use Rattle.definition.specs.Replay.{Played, played, following, playFrom, isBadBoard, playBoard}
 use Rattle.laws.specs.Formed.{Begins, accepted, noBoard, noTable, start-begins}
 use Rattle.laws.specs.Replays.{play-end, play-board, board-goes-on, board-ends, play-from}
-use Rattle.trace.specs.declared.numbers.Number.{Number}
-use Rattle.trace.specs.declared.numbers.Number.the-variants as N
-use Rattle.trace.specs.Meaning.{Boarded}
 use Rattle.trace.specs.TraceLaws.{board-end}
-use Rattle.trace.specs.Answers.{board-spoiled, board-cut}
 use Rattle.lines.specs.Puts.{Put, shortLine}
 use Rattle.lines.specs.PutLaws.{put-head, put-tail, put-fits}
 use Rattle.layer.specs.declared.Progress.{Progress}
@@ -201,14 +197,10 @@ module _ (s : List ℕ) (x : Lent) (old : List ℕ) where
   plays-none h = (refl, record { within = omega arith; rest = refl }, omega arith, omega arith, λ wide. absurd (omega arith))
 
   -- nor has it anything but a line where the board is broken or cut
-  pub plays-broken : (r : Number) (kept : List ℕ) (words : List ℕ) → Boarded (readAt board s 0) words r kept → (r ≡ N.Broken) ⊎ (r ≡ N.Cut) → (new : List ℕ) (end : ℕ) → Put (broken 0) 0 old new end → length new ≡ length old
-      → Plays s x 0 old (Ended end) x new
-  unfolding Plays playBoard
-  plays-broken r kept words h why new end put same =
-      let none : playAt s x 0 ≡ played x (broken 0) =
-      ⊎-elim (λ e. play-board s x spoiled (board-spoiled words kept (readAt board s 0) (subst (λ r. Boarded (readAt board s 0) words r kept) e h) .0))
-      (λ e. play-board s x cut (board-cut words kept (readAt board s 0) (subst (λ r. Boarded (readAt board s 0) words r kept) e h) .0)) why in
-      (none ∙ ap (played x) (sym (put-head (omega arith) put)), record { within = put-fits (omega arith) put same; rest = put-tail (omega arith) put })
+  pub plays-broken : (here : Found (List ℕ)) → readAt board s 0 ≡ here → playBoard s x here ≡ played x (broken 0) → (new : List ℕ) (end : ℕ) → Put (broken 0) 0 old new end → length new ≡ length old → Plays s x 0 old (Ended end) x new
+  unfolding Plays
+  plays-broken here e line new end put same =
+      (play-board s x here e ∙ line ∙ ap (played x) (sym (put-head (omega arith) put)), record { within = put-fits (omega arith) put same; rest = put-tail (omega arith) put })
 
   pub plays-board : (words : List ℕ) (i : ℕ) → readAt board s 0 ≡ found words i → (r : Progress) (y : Lent) (new : List ℕ) → Goes s (playBoard s x (found words i)) i 0 old r y new → Plays s x 0 old r y new
   unfolding Plays Goes

@@ -4,23 +4,17 @@ use Rattle.host.proofs.WordLaws.{told-nothing, told-answer}
 use Rattle.host.proofs.mk_call.Statement.{statement}
 use Rattle.host.proofs.mk_call.Tie as tie
 
-returns : tie.Need-returns
-returns c f = told-nothing _ _ _ (c .if1 .taken)
-
-returns-2 : tie.Need-returns-2
-returns-2 c f =
-    let t = c .before .before in
-    let s = t .before .before .before .before .before .before in
-    told-answer _ _ _ _ _ _ (s .before .before .before .if1 .left) (s .call .ensures f) (t .tell .ensures)
-
 pub mk-call-spec : {M : Type 1} → statement M
 mk-call-spec =
     tie.close
     (tie.spec
-    returns
+    (λ c f. told-nothing _ _ _ (c .if1 .taken))
     (λ c κs. search needs)
     (λ c κs. search needs)
     (λ c. search needs)
     (λ c. search needs)
     (λ c. search needs)
-    returns-2)
+    (λ c f.
+    let t = c .before .before in
+    let s = t .before .before .before .before .before .before in
+    told-answer _ _ _ _ _ _ (s .before .before .before .if1 .left) (s .call .ensures f) (t .tell .ensures)))

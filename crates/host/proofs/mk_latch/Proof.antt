@@ -11,9 +11,6 @@ use Rattle.host.proofs.WordLaws.{told-nothing, told-answer}
 use Rattle.host.proofs.mk_latch.Statement.{statement}
 use Rattle.host.proofs.mk_latch.Tie as tie
 
-returns : tie.Need-returns
-returns c m f = told-nothing _ _ _ (c .if1 .taken)
-
 returns-2 : tie.Need-returns-2
 returns-2 c m f =
     let t = c .before .before in
@@ -27,7 +24,7 @@ pub mk-latch-spec : {M : Type 1} → statement M
 mk-latch-spec =
     tie.close
     (tie.spec
-    returns
+    (λ c m f. told-nothing _ _ _ (c .if1 .taken))
     (λ c κs. search needs)
     (λ c κs. search needs)
     (λ c. search needs)

@@ -4,22 +4,16 @@ use Rattle.host.proofs.WordLaws.{told-nothing, told-answer}
 use Rattle.host.proofs.mk_resume.Statement.{statement}
 use Rattle.host.proofs.mk_resume.Tie as tie
 
-returns : tie.Need-returns
-returns c m f = told-nothing _ _ _ (c .if1 .taken)
-
-returns-2 : tie.Need-returns-2
-returns-2 c m f =
-    let t = c .before .before in
-    let s = t .before .before .before .before in
-    told-answer _ _ _ _ _ _ (s .before .before .if1 .left) (s .resume .ensures m f) (t .tell .ensures)
-
 pub mk-resume-spec : {M : Type 1} → statement M
 mk-resume-spec =
     tie.close
     (tie.spec
-    returns
+    (λ c m f. told-nothing _ _ _ (c .if1 .taken))
     (λ c κs. search needs)
     (λ c κs. search needs)
     (λ c. search needs)
     (λ c. search needs)
-    returns-2)
+    (λ c m f.
+    let t = c .before .before in
+    let s = t .before .before .before .before in
+    told-answer _ _ _ _ _ _ (s .before .before .if1 .left) (s .resume .ensures m f) (t .tell .ensures)))
