@@ -8,7 +8,7 @@ use lib.ListN.{length, drop}
 use lib.Dec.{leb}
 use borrow.Author.Tests.{le-leb, lt-leb}
 use Rattle.definition.specs.Tests.{if_then_else_}
-use Rattle.definition.specs.Answer.{Part, Answer, fetched, changesNothing}
+use Rattle.definition.specs.Answer.{Answer, changesNothing}
 use Rattle.definition.specs.Decide.{fetch}
 use Rattle.definition.specs.World.{Step, own, Out}
 use Rattle.definition.specs.Table.{Lent, tableStep}
@@ -18,9 +18,10 @@ use Rattle.types.specs.declared.Image.{Image as Named}
 use Rattle.types.specs.Meaning.{answerOf}
 use Rattle.words.specs.Splice.{splice}
 use Rattle.layer.specs.declared.Place.{Place}
+use Rattle.layer.specs.declared.Fetched.{Fetched}
 use Rattle.layer.specs.Steps.{gave}
-use Rattle.layer.specs.Fetching.{numberOf, partOf, imageOf, Lies}
-use Rattle.layer.specs.StatementLaws.{fetches}
+use Rattle.layer.specs.Fetching.{imageOf, Finds}
+use Rattle.layer.specs.StatementLaws.{part-size}
 use Rattle.host.specs.Answers.{imageWord, answerWords, placeWords, told, tell}
 
 -- words that are put at the front of out are those that they are said to be
@@ -57,10 +58,8 @@ words-told e = sym (ap (λ (a : Code). answerWords (answerOf a)) e)
 pub image-told : (n : ℕ) (place : Place) (i : Named) → place .image ≡ i → (11 ∷ n ∷ imageWord (imageOf i) ∷ place .place ∷ place .length ∷ 0 ∷ []) ≡ placeWords n place
 image-told n place i e = ap (λ (i : Named). 11 ∷ n ∷ imageWord (imageOf i) ∷ place .place ∷ place .length ∷ 0 ∷ []) (sym e)
 
-pub place-words : (n : ℕ) (x : Part) (place : Place) → Lies x place → placeWords n place ≡ answerWords (fetched n x)
-place-words n x place l =
-    ap₂ (λ (i p : ℕ). 11 ∷ n ∷ i ∷ p ∷ place .length ∷ 0 ∷ []) (ap imageWord (l .image)) (l .place)
-    ∙ ap (λ (k : ℕ). 11 ∷ n ∷ imageWord (x .image) ∷ x .place ∷ k ∷ 0 ∷ []) (l .size)
+found-words : (r : Answer) (m f : List ℕ) (x : Fetched) → Finds r m f x → placeWords (x .number) (x .place) ≡ answerWords r
+found-words r m f x h = ap (λ (k : ℕ). 11 ∷ x .number ∷ imageWord (imageOf (x .place .image)) ∷ x .place .place ∷ k ∷ 0 ∷ []) (part-size (x .place) m f (h .inside)) ∙ sym (ap answerWords (h .answer))
 
 module _ (p driver j offset n : ℕ) (x : Lent) where
   abbrev asked : Step
@@ -69,10 +68,8 @@ module _ (p driver j offset n : ℕ) (x : Lent) where
   abbrev given : Answer
   given = tableStep asked x .answer
 
-  -- a fetch leaves all as it was, and its answer is its number and its part
-  pub told-place : (number : ℕ) (place : Place) (out out′ : List ℕ) → 6 ≤ length out → number ≡ numberOf given → Lies (partOf given) place → out′ ≡ placeWords number place ++ drop 6 out
-      → tell (tableStep asked) x out ≡ told true x out′
-  told-place number place out out′ h en l w =
-      let whole = fetches p driver j offset n x .whole in
-      told-answer (tableStep asked) x out given x out′ h (λ i. gave given (unchanged .tables asked x (ap changesNothing whole) i))
-      (w ∙ ap (λ (s : List ℕ). s ++ drop 6 out) (ap (λ (k : ℕ). placeWords k place) en ∙ place-words (numberOf given) (partOf given) place l ∙ sym (ap answerWords whole)))
+  -- a fetch leaves all as it was, and its answer is what was found
+  pub told-fetched : (r : Fetched) (out out′ : List ℕ) → 6 ≤ length out → Finds given (x .memory) (x .flash) r → out′ ≡ placeWords (r .number) (r .place) ++ drop 6 out → tell (tableStep asked) x out ≡ told true x out′
+  told-fetched r out out′ h finds w =
+      told-answer (tableStep asked) x out given x out′ h (λ i. gave given (unchanged .tables asked x (ap changesNothing (finds .answer)) i))
+      (w ∙ ap (λ (s : List ℕ). s ++ drop 6 out) (found-words given (x .memory) (x .flash) r finds))

@@ -153,7 +153,7 @@ pub extern "C" fn mk_fetch(
     if out.len() < answers::WORDS {
         return false;
     }
-    let number = layer::fetch_number(
+    let fetched = layer::fetch_answer(
         table,
         memory,
         flash,
@@ -163,17 +163,7 @@ pub extern "C" fn mk_fetch(
         offset,
         length,
     );
-    let place = layer::fetch_place(
-        table,
-        memory,
-        flash,
-        Process(process),
-        Driver(driver),
-        slot,
-        offset,
-        length,
-    );
-    answers::tell_fetched(out, number, place);
+    answers::tell_fetched(out, fetched.number, fetched.place);
     true
 }
 

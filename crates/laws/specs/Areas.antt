@@ -1,15 +1,15 @@
 -- Where a buffer lies: its area taken apart into numbers, and what the tests of it come to.
 use Prim.Native.Nat.{ℕ, _+_, _≤_}
-use mathlib.Core.Path.{_≡_, refl}
+use mathlib.Core.Path.{_≡_, refl, sym, _∙_}
 use mathlib.Core.Bool.{Bool, true, false, _&&_, _||_, not}
 use mathlib.Core.Logic.{_≢_}
 use lib.Dec.{eqb}
-use borrow.Author.Tests.{eqb-true, eqb-false}
+use borrow.Author.Tests.{eqb-true, eqb-false, ne-eqb}
 use Rattle.definition.specs.Tests.{if_then_else_, within}
 use Rattle.definition.specs.Board.{Areas, readWrite, readOnly}
 use Rattle.definition.specs.State.{Pair}
 use Rattle.definition.specs.Area.{Area, empty, inRam, inFlash, outside, areaOf, accessible, holdable, isInRam}
-use Rattle.laws.specs.Facts.{within-true}
+use Rattle.laws.specs.Facts.{or-false, within-true}
 
 module _ (a : Areas) (break : ℕ) (x : Pair) where
   -- the three tests of an area
@@ -59,3 +59,17 @@ module _ (a : Areas) (break : ℕ) (x : Pair) where
   pub ram-by : isInRam (areaOf a break x) ≡ (not isNone && isRam)
   unfolding areaOf
   ram-by = area-tests isNone isRam isFlash .2
+
+  -- the area of a buffer that is not empty, by where it lies
+  module _ (some : x .second ≢ 0) where
+    pub area-ram : isRam ≡ true → areaOf a break x ≡ inRam
+    unfolding areaOf if_then_else_
+    area-ram q = rw (ne-eqb (x .second) 0 some, q)
+
+    pub area-flash : isRam ≡ false → isFlash ≡ true → areaOf a break x ≡ inFlash
+    unfolding areaOf if_then_else_
+    area-flash q r = rw (ne-eqb (x .second) 0 some, q, r)
+
+    -- one that a read-only slot may hold and that is not in RAM is in flash
+    pub flash-held : holdable readOnly a break x ≡ true → isRam ≡ false → isFlash ≡ true
+    flash-held e q = or-false isRam isFlash (or-false isNone (isRam || isFlash) (sym readable-by ∙ e) (ne-eqb (x .second) 0 some)) q

@@ -6,7 +6,7 @@ ghost use Rattle.definition.specs.Table.{tableStep};
 ghost use Rattle.definition.specs.Signed.{wordOf};
 ghost use Rattle.types.specs.Meaning.{answerOf};
 ghost use Rattle.layer.specs.Steps.{lent, Makes, MakesAlone, Starts};
-ghost use Rattle.layer.specs.Fetching.{numberOf, partOf, IsPart, Lies};
+ghost use Rattle.layer.specs.Fetching.{numberOf, partOf, IsPart, Lies, Finds};
 ghost use Rattle.layer.specs.Replaying.{Plays};
 
 mod fetches;
@@ -29,6 +29,12 @@ pub struct Place {
     pub image: Image,
     pub place: u32,
     pub length: u32,
+}
+
+// What a fetch is answered with, in numbers: 0 where it is accepted, else the number of its refusal; and where its part lies.
+pub struct Fetched {
+    pub number: u32,
+    pub place: Place,
 }
 
 // How far a run over a trace has come: it has ended, with so many bytes written; or it has paused for want of room before what stands at a
@@ -108,8 +114,8 @@ pub fn deposit(
     steps::deposit(table, memory, formed, process, driver, slot, offset, bytes)
 }
 
-// The number of a fetch: 0 where it is accepted.
-pub fn fetch_number(
+// The answer to a fetch, in numbers, for a host that has both images.
+pub fn fetch_answer(
     table: &[u32],
     memory: &[u8],
     flash: &[u8],
@@ -118,35 +124,8 @@ pub fn fetch_number(
     slot: u32,
     offset: u32,
     length: u32,
-) -> u32
-    ensures { λ r. ⌜ r ≡ numberOf (tableStep (own (process .0) (fetch (driver .0) slot offset length)) (lent (now (table .entry)) (now (memory .entry)) (now (flash .entry))) .answer) ⌝ }
-{
-    let formed = checks::well_formed(table);
-    steps::fetch_number(
-        table,
-        memory,
-        flash,
-        formed,
-        process,
-        driver,
-        slot,
-        offset,
-        length,
-    )
-}
-
-// Bytes of a process's read-only buffer, from an offset in it on: a part of the image that the buffer lies in.
-pub fn fetch<'a>(
-    table: &[u32],
-    memory: &'a [u8],
-    flash: &'a [u8],
-    process: Process,
-    driver: Driver,
-    slot: u32,
-    offset: u32,
-    length: u32,
-) -> &'a [u8]
-    ensures { λ r. ⌜ IsPart (partOf (tableStep (own (process .0) (fetch (driver .0) slot offset length)) (lent (now (table .entry)) (now (memory .entry)) (now (flash .entry))) .answer)) (memory .entry) (flash .entry) r ⌝ }
+) -> Fetched
+    ensures { λ r. ⌜ Finds (tableStep (own (process .0) (fetch (driver .0) slot offset length)) (lent (now (table .entry)) (now (memory .entry)) (now (flash .entry))) .answer) (now (memory .entry)) (now (flash .entry)) r ⌝ }
 {
     let formed = checks::well_formed(table);
     steps::fetch(
@@ -162,6 +141,41 @@ pub fn fetch<'a>(
     )
 }
 
+// The number of a fetch: 0 where it is accepted.
+pub fn fetch_number(
+    table: &[u32],
+    memory: &[u8],
+    flash: &[u8],
+    process: Process,
+    driver: Driver,
+    slot: u32,
+    offset: u32,
+    length: u32,
+) -> u32
+    ensures { λ r. ⌜ r ≡ numberOf (tableStep (own (process .0) (fetch (driver .0) slot offset length)) (lent (now (table .entry)) (now (memory .entry)) (now (flash .entry))) .answer) ⌝ }
+{
+    let answer = fetch_answer(table, memory, flash, process, driver, slot, offset, length);
+    answer.number
+}
+
+// Bytes of a process's read-only buffer, from an offset in it on: a part of the image that the buffer lies in.
+pub fn fetch<'a>(
+    table: &[u32],
+    memory: &'a [u8],
+    flash: &'a [u8],
+    process: Process,
+    driver: Driver,
+    slot: u32,
+    offset: u32,
+    length: u32,
+) -> &'a [u8]
+    ensures { λ r. ⌜ IsPart (partOf (tableStep (own (process .0) (fetch (driver .0) slot offset length)) (lent (now (table .entry)) (now (memory .entry)) (now (flash .entry))) .answer)) (memory .entry) (flash .entry) r ⌝ }
+{
+    let fetched = fetch_answer(table, memory, flash, process, driver, slot, offset, length);
+    let place = fetched.place;
+    fetches::part(memory, flash, place)
+}
+
 // Where the part that a fetch hands back lies, for a host that is told of it in numbers.
 pub fn fetch_place(
     table: &[u32],
@@ -175,18 +189,8 @@ pub fn fetch_place(
 ) -> Place
     ensures { λ r. ⌜ Lies (partOf (tableStep (own (process .0) (fetch (driver .0) slot offset length)) (lent (now (table .entry)) (now (memory .entry)) (now (flash .entry))) .answer)) r ⌝ }
 {
-    let formed = checks::well_formed(table);
-    steps::fetch_place(
-        table,
-        memory,
-        flash,
-        formed,
-        process,
-        driver,
-        slot,
-        offset,
-        length,
-    )
+    let told = fetch_answer(table, memory, flash, process, driver, slot, offset, length);
+    told.place
 }
 
 // A shared driver's value: a signed peak.

@@ -15,6 +15,7 @@ ghost use Rattle.layer.specs.Steps.{lent, Makes};
 ghost use Rattle.layer.specs.Fetching.{numberOf};
 ghost use Rattle.layer.specs.Replaying.{Plays, Goes, Moves, Turned, Acted, FetchTold, ReadIn, stepBy};
 use super::Progress;
+use super::fetches;
 use super::steps;
 use calls::signed;
 use lines::Line;
@@ -119,33 +120,23 @@ fn put_fetch<'a>(
     requires { ⌜ (formed ≡ wellFormed (now table)) × (used + shortLine ≤ length (now out)) ⌝ }
     ensures { λ r. ⌜ FetchTold (own (fields .0) (fetch (fields .1) (fields .2) (fields .3) (fields .4))) (lent (now (table .entry)) (now (memory .entry)) (now (flash .entry))) used (now (out .entry)) r (now (out .exit)) ⌝ }
 {
-    let process = Process(fields.0);
-    let driver = Driver(fields.1);
-    let number = steps::fetch_number(
+    let fetched = steps::fetch(
         table,
         memory,
         flash,
         formed,
-        process,
-        driver,
+        Process(fields.0),
+        Driver(fields.1),
         fields.2,
         fields.3,
         fields.4,
     );
+    let number = fetched.number;
     if number != 0 {
         return Room::Used(lines::put_answer(out, used, Answer::Refused(number)));
     }
-    let part = steps::fetch(
-        table,
-        memory,
-        flash,
-        formed,
-        process,
-        driver,
-        fields.2,
-        fields.3,
-        fields.4,
-    );
+    let place = fetched.place;
+    let part = fetches::part(memory, flash, place);
     if !lines::part_fits(out.len() - used, part.len()) {
         return Room::Short;
     }
