@@ -1,9 +1,9 @@
 //! Times the proved library beside plain Rust of the same job, in one run: the check of a table,
 //! and the calls of request 6.
 //!
-//! `bench library N`, `bench plain N` and `bench none N` replay N calls once through one of the
-//! two, or only build what both are given: under a tool that counts instructions, the difference is
-//! the replay's.
+//! `bench library N`, `bench plain N`, `bench second N` and `bench none N` replay N calls once through
+//! one of the three, or only build what they are given: under a tool that counts instructions, the
+//! difference is the replay's.
 
 mod check;
 mod library;
@@ -36,6 +36,7 @@ fn replay_once(program: &str, calls: &str) -> ExitCode {
     match program {
         "library" => drop(job.library()),
         "plain" => drop(job.plain()),
+        "second" => drop(job.second()),
         "none" => {}
         _ => return usage(),
     }
@@ -43,6 +44,6 @@ fn replay_once(program: &str, calls: &str) -> ExitCode {
 }
 
 fn usage() -> ExitCode {
-    eprintln!("bench, or bench library|plain|none and a number of calls that 3 divides");
+    eprintln!("bench, or bench library|plain|second|none and a number of calls that 3 divides");
     ExitCode::FAILURE
 }

@@ -25,6 +25,7 @@ pub struct Job {
     flash: Box<Image>,
     library_lines: Vec<u8>,
     plain_lines: Lines,
+    second_lines: second::lines::Lines,
 }
 
 impl Job {
@@ -38,6 +39,7 @@ impl Job {
             // Not zeros, as those pages would be there only once they are written.
             library_lines: vec![b'?'; LINE * calls + 64],
             plain_lines: Lines::with_room(LINE * calls),
+            second_lines: second::lines::Lines::with_room(LINE * calls),
         }
     }
 
@@ -45,6 +47,7 @@ impl Job {
         self.table.fill(0);
         self.memory.fill(0);
         self.plain_lines.clear();
+        self.second_lines.clear();
     }
 
     /// Replays through the library; the time, and how many bytes of lines were written.
@@ -63,11 +66,19 @@ impl Job {
         replay(&self.trace, &mut self.memory, &self.flash, &mut self.plain_lines);
         began.elapsed()
     }
+
+    /// Replays through the second program, which makes its own images.
+    pub fn second(&mut self) -> Duration {
+        self.make_fresh();
+        let began = Instant::now();
+        second::replay::replay_into(&self.trace, &mut self.second_lines);
+        began.elapsed()
+    }
 }
 
 pub fn compare_and_time() {
     let mut job = Job::new(calls::CALLS);
-    let (mut proved, mut plain) = (Duration::MAX, Duration::MAX);
+    let (mut proved, mut plain, mut second) = (Duration::MAX, Duration::MAX, Duration::MAX);
     for _ in 0..TURNS {
         let (time, written) = job.library();
         proved = proved.min(time);
@@ -75,13 +86,18 @@ pub fn compare_and_time() {
         let lines = job.plain_lines.written();
         assert!(&job.library_lines[..written] == lines, "the two programs' lines differ");
         assert_all_accepted(lines, job.calls);
+        second = second.min(job.second());
+        let lines = job.second_lines.written();
+        assert!(&job.library_lines[..written] == lines, "the second program's lines differ");
     }
-    let (bytes, written) = (job.trace.len(), job.plain_lines.written().len());
+    let (bytes, written) = (job.trace.len(), job.second_lines.written().len());
     println!("replay of {} calls: {bytes} bytes of trace and {written} of equal lines", job.calls);
     println!("  no call refused or failed; least of {TURNS} turns each, taken in turn");
     report("proved", proved, job.calls);
     report("plain Rust", plain, job.calls);
-    println!("  ratio {:.2}", proved.as_secs_f64() / plain.as_secs_f64());
+    report("second program", second, job.calls);
+    println!("  proved to plain {:.2}", proved.as_secs_f64() / plain.as_secs_f64());
+    println!("  second to plain {:.2}", second.as_secs_f64() / plain.as_secs_f64());
 }
 
 fn assert_all_accepted(lines: &[u8], calls: usize) {

@@ -8,6 +8,8 @@ pub const MAX_PROCESSES: usize = 8;
 pub const MAX_DRIVERS: usize = 16;
 /// Most slots of each of the three kinds that one driver has.
 pub const MAX_SLOTS: u32 = 4;
+/// How many kinds of slots there are.
+pub const SLOT_KINDS: usize = 3;
 /// Bytes of the memory image, and bytes of the flash image.
 pub const IMAGE_SIZE: usize = 65_536;
 
@@ -48,6 +50,20 @@ pub struct DriverNumber(pub u32);
 #[derive(Clone, Copy, Debug, PartialEq, Eq)]
 pub struct DriverPlace(pub usize);
 
+/// What a slot is for.
+#[derive(Clone, Copy, Debug, PartialEq, Eq)]
+pub enum SlotKind {
+    Subscribe,
+    ReadWrite,
+    ReadOnly,
+}
+
+impl SlotKind {
+    /// In the order in which a board counts a driver's slots.
+    pub const ALL: [SlotKind; SLOT_KINDS] =
+        [SlotKind::Subscribe, SlotKind::ReadWrite, SlotKind::ReadOnly];
+}
+
 /// The addresses from `start` up to, not including, `end`.
 #[derive(Clone, Copy, Debug, PartialEq, Eq)]
 pub struct Area {
@@ -61,13 +77,15 @@ impl Area {
     }
 
     pub fn contains(self, address: u32) -> bool {
-        self.start <= address && address < self.end
+        self.holds(address, 1)
     }
 
     /// Whether `size` bytes from `address` on lie wholly inside. The sum is
-    /// taken in 64 bits: in 32 bits it would wrap to a small address.
+    /// taken in 64 bits: in 32 bits it would wrap to a small address. Both
+    /// sides are looked at: which one decides cannot be guessed.
+    #[inline(always)]
     pub fn holds(self, address: u32, size: u32) -> bool {
-        self.start <= address && u64::from(address) + u64::from(size) <= u64::from(self.end)
+        (self.start <= address) & (u64::from(address) + u64::from(size) <= u64::from(self.end))
     }
 
     fn is_empty(self) -> bool {
@@ -109,6 +127,7 @@ impl ProcessBoard {
         }
     }
 
+    #[inline(always)]
     pub fn permits(&self, driver: DriverPlace) -> bool {
         (self.permissions >> driver.0) & 1 == 1
     }
@@ -134,9 +153,8 @@ impl ProcessBoard {
 #[derive(Clone, Copy, Debug, PartialEq, Eq)]
 pub struct DriverBoard {
     pub number: DriverNumber,
-    pub subscribe_slots: u32,
-    pub read_write_slots: u32,
-    pub read_only_slots: u32,
+    /// How many slots of each kind it has.
+    slots: [u32; SLOT_KINDS],
     pub shared: bool,
 }
 
@@ -150,17 +168,19 @@ impl DriverBoard {
         };
         Some(DriverBoard {
             number: DriverNumber(words[0]),
-            subscribe_slots: words[1],
-            read_write_slots: words[2],
-            read_only_slots: words[3],
+            slots: [words[1], words[2], words[3]],
             shared,
         })
     }
 
+    /// How many slots of this kind the driver has.
+    #[inline(always)]
+    pub fn slots(&self, kind: SlotKind) -> u32 {
+        self.slots[kind as usize]
+    }
+
     fn is_good(&self) -> bool {
-        [self.subscribe_slots, self.read_write_slots, self.read_only_slots]
-            .iter()
-            .all(|&slots| slots <= MAX_SLOTS)
+        self.slots.iter().all(|&slots| slots <= MAX_SLOTS)
     }
 }
 
@@ -169,6 +189,7 @@ impl DriverBoard {
 pub struct Board {
     processes: Vec<ProcessBoard>,
     drivers: Vec<DriverBoard>,
+    numbers: DriverNumbers,
 }
 
 impl Board {
@@ -180,10 +201,11 @@ impl Board {
         if !counts_are_good {
             return None;
         }
-        let board = Board {
-            processes: processes.map(ProcessBoard::from_words).collect(),
-            drivers: drivers.map(DriverBoard::from_words).collect::<Option<_>>()?,
-        };
+        let processes = processes.map(ProcessBoard::from_words).collect();
+        let drivers: Vec<DriverBoard> =
+            drivers.map(DriverBoard::from_words).collect::<Option<_>>()?;
+        let numbers = DriverNumbers::of(&drivers);
+        let board = Board { processes, drivers, numbers };
         board.is_good().then_some(board)
     }
 
@@ -196,8 +218,9 @@ impl Board {
     }
 
     /// Where the driver stands on the board, if it is installed.
+    #[inline(always)]
     pub fn find_driver(&self, number: DriverNumber) -> Option<DriverPlace> {
-        self.drivers.iter().position(|driver| driver.number == number).map(DriverPlace)
+        self.numbers.find(number)
     }
 
     fn is_good(&self) -> bool {
@@ -207,6 +230,35 @@ impl Board {
             && every_pair(&self.processes, |a, b| a.ram.is_disjoint_from(b.ram))
             && every_pair(&self.processes, |a, b| a.flash.is_disjoint_from(b.flash))
             && every_pair(&self.drivers, |a, b| a.number != b.number)
+    }
+}
+
+/// The drivers' numbers side by side, so that all can be compared at once:
+/// where a search stops could not be guessed.
+#[derive(Clone, Debug, Default, PartialEq, Eq)]
+struct DriverNumbers {
+    numbers: [u32; MAX_DRIVERS],
+    /// Bit k alone at each place k that a driver has, and none at the others.
+    bits: [u32; MAX_DRIVERS],
+}
+
+impl DriverNumbers {
+    fn of(drivers: &[DriverBoard]) -> DriverNumbers {
+        let mut all = DriverNumbers::default();
+        for (place, driver) in drivers.iter().enumerate() {
+            all.numbers[place] = driver.number.0;
+            all.bits[place] = 1 << place;
+        }
+        all
+    }
+
+    #[inline(always)]
+    fn find(&self, number: DriverNumber) -> Option<DriverPlace> {
+        let mut found = 0_u32;
+        for (&other, &bit) in self.numbers.iter().zip(&self.bits) {
+            found |= if other == number.0 { bit } else { 0 };
+        }
+        (found != 0).then_some(DriverPlace(found.trailing_zeros() as usize))
     }
 }
 

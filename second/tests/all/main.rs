@@ -8,6 +8,7 @@ mod generator;
 mod incident;
 mod listing;
 mod mistakes;
+mod numbers;
 mod programs;
 mod properties;
 mod readings;
