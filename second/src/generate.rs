@@ -8,6 +8,7 @@ pub mod corpus;
 pub mod long;
 pub mod script;
 pub mod spoil;
+pub mod tables;
 pub mod walk;
 
 use crate::random::Random;

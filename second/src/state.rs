@@ -130,17 +130,10 @@ impl Process {
         Area { end: self.app_break, ..self.board.ram }
     }
 
-    /// Whether a slot of this kind may hold the pair: an upcall that is null or
-    /// points into flash; a buffer that is empty, or lies wholly in RAM below
-    /// the break or (read-only) in flash. All of it is looked at: what decides
-    /// cannot be guessed.
+    /// Whether a slot of this kind may hold the pair.
     #[inline(always)]
-    pub fn accepts(&self, kind: SlotKind, [first, second]: Pair) -> bool {
-        // A pointer is to one byte, and the null one to none.
-        let size = if kind == SlotKind::Subscribe { u32::from(first != 0) } else { second };
-        let in_ram = self.accessible_ram().holds(first, size) & (kind != SlotKind::Subscribe);
-        let in_flash = self.board.flash.holds(first, size) & (kind != SlotKind::ReadWrite);
-        (size == 0) | in_ram | in_flash
+    pub fn accepts(&self, kind: SlotKind, pair: Pair) -> bool {
+        self.board.accepts(self.app_break, kind, pair)
     }
 
     /// Removes the queued upcalls of one slot; the others keep their order.

@@ -14,4 +14,5 @@ mod properties;
 mod readings;
 mod refusals;
 mod speed;
+mod table;
 mod traces;
