@@ -1,12 +1,11 @@
-//! Times the proved library beside plain Rust of the same job, in one run: the check of a table,
-//! and the calls of request 6.
+//! Times the proved library beside the second program, which is plain Rust of the same job, in one
+//! run: the check of a table, and a million calls.
 //!
-//! `bench library N`, `bench plain N`, `bench second N` and `bench none N` replay N calls once through
-//! one of the three, or only build what they are given: under a tool that counts instructions, the
-//! difference is the replay's.
+//! `bench library N`, `bench plain N` and `bench none N` replay N calls once through one of the
+//! two, or only build what both are given: under a tool that counts instructions, the difference is
+//! the replay's.
 
 mod check;
-mod library;
 mod rate;
 
 use std::env;
@@ -19,7 +18,7 @@ fn main() -> ExitCode {
     let arguments: Vec<&str> = arguments.iter().map(String::as_str).collect();
     match arguments[..] {
         [] => {
-            check::compare_and_time();
+            check::time();
             rate::compare_and_time();
             ExitCode::SUCCESS
         }
@@ -36,7 +35,6 @@ fn replay_once(program: &str, calls: &str) -> ExitCode {
     match program {
         "library" => drop(job.library()),
         "plain" => drop(job.plain()),
-        "second" => drop(job.second()),
         "none" => {}
         _ => return usage(),
     }
@@ -44,6 +42,6 @@ fn replay_once(program: &str, calls: &str) -> ExitCode {
 }
 
 fn usage() -> ExitCode {
-    eprintln!("bench, or bench library|plain|second|none and a number of calls that 3 divides");
+    eprintln!("bench, or bench library|plain|none and a number of calls that 3 divides");
     ExitCode::FAILURE
 }

@@ -1,12 +1,11 @@
-//! The calls of request 6 through the proved library and through the plain program, in turn.
+//! A million calls through the proved library and through the second program, in turn.
 
 use std::time::{Duration, Instant};
 
-use bench::calls;
-use bench::plain::TABLE;
-use bench::replay::{replay, Image, Lines, IMAGE_BYTES};
-
-use crate::library::{self, Lent};
+use makvluria::{Progress, IMAGE_BYTES, TABLE_WORDS};
+use second::generate::calls;
+use second::lines::Lines;
+use second::replay::replay_into;
 
 const TURNS: usize = 7;
 
@@ -17,15 +16,15 @@ const LINE: usize = 46;
 const NOT_ACCEPTED: [&[u8]; 5] = [b"X", b"A 0 ", b"A 1 ", b"A 2 ", b"A 3 "];
 
 /// All that both programs are given. It is built, and made fresh again, outside of the timed part.
+/// The second program has its state and its images to itself, and makes them inside.
 pub struct Job {
     trace: Vec<u8>,
     calls: usize,
     table: Vec<u32>,
-    memory: Box<Image>,
-    flash: Box<Image>,
+    memory: Vec<u8>,
+    flash: Vec<u8>,
     library_lines: Vec<u8>,
     plain_lines: Lines,
-    second_lines: second::lines::Lines,
 }
 
 impl Job {
@@ -33,13 +32,12 @@ impl Job {
         Job {
             trace: calls::trace(calls),
             calls,
-            table: vec![0; TABLE],
-            memory: Box::new([0; IMAGE_BYTES]),
-            flash: Box::new([0; IMAGE_BYTES]),
+            table: vec![0; TABLE_WORDS],
+            memory: vec![0; IMAGE_BYTES],
+            flash: vec![0; IMAGE_BYTES],
             // Not zeros, as those pages would be there only once they are written.
             library_lines: vec![b'?'; LINE * calls + 64],
             plain_lines: Lines::with_room(LINE * calls),
-            second_lines: second::lines::Lines::with_room(LINE * calls),
         }
     }
 
@@ -47,38 +45,32 @@ impl Job {
         self.table.fill(0);
         self.memory.fill(0);
         self.plain_lines.clear();
-        self.second_lines.clear();
     }
 
     /// Replays through the library; the time, and how many bytes of lines were written.
     pub fn library(&mut self) -> (Duration, usize) {
         self.make_fresh();
         let Job { trace, table, memory, flash, library_lines, .. } = self;
-        let mut lent = Lent { table, memory, flash };
         let began = Instant::now();
-        let written = library::replay(trace, &mut lent, library_lines);
-        (began.elapsed(), written)
+        let progress = makvluria::replay(trace, 0, table, memory, flash, library_lines);
+        let time = began.elapsed();
+        let Progress::Ended { written } = progress else {
+            panic!("there is room for a line of each call: {progress:?}");
+        };
+        (time, written)
     }
 
     pub fn plain(&mut self) -> Duration {
         self.make_fresh();
         let began = Instant::now();
-        replay(&self.trace, &mut self.memory, &self.flash, &mut self.plain_lines);
-        began.elapsed()
-    }
-
-    /// Replays through the second program, which makes its own images.
-    pub fn second(&mut self) -> Duration {
-        self.make_fresh();
-        let began = Instant::now();
-        second::replay::replay_into(&self.trace, &mut self.second_lines);
+        replay_into(&self.trace, &mut self.plain_lines);
         began.elapsed()
     }
 }
 
 pub fn compare_and_time() {
     let mut job = Job::new(calls::CALLS);
-    let (mut proved, mut plain, mut second) = (Duration::MAX, Duration::MAX, Duration::MAX);
+    let (mut proved, mut plain) = (Duration::MAX, Duration::MAX);
     for _ in 0..TURNS {
         let (time, written) = job.library();
         proved = proved.min(time);
@@ -86,18 +78,13 @@ pub fn compare_and_time() {
         let lines = job.plain_lines.written();
         assert!(&job.library_lines[..written] == lines, "the two programs' lines differ");
         assert_all_accepted(lines, job.calls);
-        second = second.min(job.second());
-        let lines = job.second_lines.written();
-        assert!(&job.library_lines[..written] == lines, "the second program's lines differ");
     }
-    let (bytes, written) = (job.trace.len(), job.second_lines.written().len());
+    let (bytes, written) = (job.trace.len(), job.plain_lines.length());
     println!("replay of {} calls: {bytes} bytes of trace and {written} of equal lines", job.calls);
     println!("  no call refused or failed; least of {TURNS} turns each, taken in turn");
     report("proved", proved, job.calls);
     report("plain Rust", plain, job.calls);
-    report("second program", second, job.calls);
-    println!("  proved to plain {:.2}", proved.as_secs_f64() / plain.as_secs_f64());
-    println!("  second to plain {:.2}", second.as_secs_f64() / plain.as_secs_f64());
+    println!("  ratio {:.2}", proved.as_secs_f64() / plain.as_secs_f64());
 }
 
 fn assert_all_accepted(lines: &[u8], calls: usize) {

@@ -4,6 +4,7 @@
 pub mod boards;
 pub mod boundary;
 pub mod broken;
+pub mod calls;
 pub mod corpus;
 pub mod long;
 pub mod script;

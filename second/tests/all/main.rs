@@ -2,6 +2,7 @@
 
 mod assembling;
 mod boards;
+mod calls;
 mod cases;
 mod common;
 mod generator;
