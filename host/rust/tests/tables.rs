@@ -36,7 +36,7 @@ const WALKS: u64 = 16;
 const WALKS_SEED: u64 = 104;
 const TAKEN_AND_REFUSED_OF_WALKS: Counts = counts(118_757, 1_425_358);
 
-/// What all of these tables give together with a part of one put over another.
+/// What the tables of `reached` give together, each with a part of another put over its own.
 const TAKEN_AND_REFUSED_OF_PARTS: Counts = counts(743, 588);
 
 const fn counts(taken: usize, refused: usize) -> Counts {
