@@ -211,8 +211,11 @@ fn worked_at_limits() -> Vec<Step<'static>> {
 }
 
 /// One process with all the memory there is, and no driver.
-const ALONE: [u32; 9] =
-    [1, 0x2000_0000, 0x2001_0000, 0x2001_0000, 0x2000_0000, 0x4_0000, 0x5_0000, 0, 0];
+#[rustfmt::skip]
+const ALONE: [u32; 9] = [
+    1, 0x2000_0000, 0x2001_0000, 0x2001_0000, 0x2000_0000, 0x4_0000, 0x5_0000, 0,
+    0,
+];
 
 /// A board at the limits on which every process may use every driver.
 fn crowded_board() -> Vec<u32> {
@@ -251,21 +254,10 @@ fn crowded() -> Vec<Step<'static>> {
 }
 
 /// One byte of RAM, which is accessible, one byte of flash, and one slot.
+#[rustfmt::skip]
 const LEAST: [u32; 14] = [
-    1,
-    0x2000_FFFF,
-    0x2001_0000,
-    0x2001_0000,
-    0x2001_0000,
-    0x4_FFFF,
-    0x5_0000,
-    1,
-    1,
-    0,
-    1,
-    1,
-    1,
-    1,
+    1, 0x2000_FFFF, 0x2001_0000, 0x2001_0000, 0x2001_0000, 0x4_FFFF, 0x5_0000, 1,
+    1, 0, 1, 1, 1, 1,
 ];
 
 fn least() -> Vec<Step<'static>> {
@@ -279,33 +271,14 @@ fn least() -> Vec<Step<'static>> {
 }
 
 /// Process 0 may use the second driver only, process 1 none.
+#[rustfmt::skip]
 const DENIED: [u32; 26] = [
     2,
-    0x2000_8000,
-    0x2000_9000,
-    0x2000_8800,
-    0x2000_8800,
-    0x4_8000,
-    0x4_9000,
+    0x2000_8000, 0x2000_9000, 0x2000_8800, 0x2000_8800, 0x4_8000, 0x4_9000, 2,
+    0x2000_0000, 0x2000_8000, 0x2000_4000, 0x2000_0000, 0x4_0000, 0x4_8000, 0,
     2,
-    0x2000_0000,
-    0x2000_8000,
-    0x2000_4000,
-    0x2000_0000,
-    0x4_0000,
-    0x4_8000,
-    0,
-    2,
-    5,
-    4,
-    4,
-    4,
-    1,
-    6,
-    1,
-    1,
-    1,
-    1,
+    5, 4, 4, 4, 1,
+    6, 1, 1, 1, 1,
 ];
 
 fn denied() -> Vec<Step<'static>> {
@@ -321,31 +294,13 @@ fn denied() -> Vec<Step<'static>> {
 }
 
 /// Three drivers, each with slots of one kind only.
+#[rustfmt::skip]
 const GAPS: [u32; 24] = [
-    1,
-    0x2000_4000,
-    0x2000_8000,
-    0x2000_7000,
-    0x2000_6000,
-    0x4_2000,
-    0x4_3000,
-    7,
+    1, 0x2000_4000, 0x2000_8000, 0x2000_7000, 0x2000_6000, 0x4_2000, 0x4_3000, 7,
     3,
-    1,
-    4,
-    0,
-    0,
-    0,
-    0x80,
-    0,
-    3,
-    0,
-    1,
-    0x4000,
-    0,
-    0,
-    2,
-    0,
+    1, 4, 0, 0, 0,
+    0x80, 0, 3, 0, 1,
+    0x4000, 0, 0, 2, 0,
 ];
 
 fn gaps() -> Vec<Step<'static>> {
