@@ -1,12 +1,11 @@
-//! Times the proved library beside plain Rust of the same job, in one run: the check of a table,
-//! and the calls of request 6.
+//! Times the proved library beside the second program, which is plain Rust of the same job, in one
+//! run: the check of a table, and a million calls.
 //!
 //! `bench library N`, `bench plain N` and `bench none N` replay N calls once through one of the
 //! two, or only build what both are given: under a tool that counts instructions, the difference is
 //! the replay's.
 
 mod check;
-mod library;
 mod rate;
 
 use std::env;
@@ -19,7 +18,7 @@ fn main() -> ExitCode {
     let arguments: Vec<&str> = arguments.iter().map(String::as_str).collect();
     match arguments[..] {
         [] => {
-            check::compare_and_time();
+            check::time();
             rate::compare_and_time();
             ExitCode::SUCCESS
         }

@@ -1,12 +1,11 @@
-//! The calls of request 6 through the proved library and through the plain program, in turn.
+//! A million calls through the proved library and through the second program, in turn.
 
 use std::time::{Duration, Instant};
 
-use bench::calls;
-use bench::plain::TABLE;
-use bench::replay::{replay, Image, Lines, IMAGE_BYTES};
-
-use crate::library::{self, Lent};
+use makvluria::{Progress, IMAGE_BYTES, TABLE_WORDS};
+use second::generate::calls;
+use second::lines::Lines;
+use second::replay::replay_into;
 
 const TURNS: usize = 7;
 
@@ -17,12 +16,13 @@ const LINE: usize = 46;
 const NOT_ACCEPTED: [&[u8]; 5] = [b"X", b"A 0 ", b"A 1 ", b"A 2 ", b"A 3 "];
 
 /// All that both programs are given. It is built, and made fresh again, outside of the timed part.
+/// The second program has its state and its images to itself, and makes them inside.
 pub struct Job {
     trace: Vec<u8>,
     calls: usize,
     table: Vec<u32>,
-    memory: Box<Image>,
-    flash: Box<Image>,
+    memory: Vec<u8>,
+    flash: Vec<u8>,
     library_lines: Vec<u8>,
     plain_lines: Lines,
 }
@@ -32,9 +32,9 @@ impl Job {
         Job {
             trace: calls::trace(calls),
             calls,
-            table: vec![0; TABLE],
-            memory: Box::new([0; IMAGE_BYTES]),
-            flash: Box::new([0; IMAGE_BYTES]),
+            table: vec![0; TABLE_WORDS],
+            memory: vec![0; IMAGE_BYTES],
+            flash: vec![0; IMAGE_BYTES],
             // Not zeros, as those pages would be there only once they are written.
             library_lines: vec![b'?'; LINE * calls + 64],
             plain_lines: Lines::with_room(LINE * calls),
@@ -51,16 +51,19 @@ impl Job {
     pub fn library(&mut self) -> (Duration, usize) {
         self.make_fresh();
         let Job { trace, table, memory, flash, library_lines, .. } = self;
-        let mut lent = Lent { table, memory, flash };
         let began = Instant::now();
-        let written = library::replay(trace, &mut lent, library_lines);
-        (began.elapsed(), written)
+        let progress = makvluria::replay(trace, 0, table, memory, flash, library_lines);
+        let time = began.elapsed();
+        let Progress::Ended { written } = progress else {
+            panic!("there is room for a line of each call: {progress:?}");
+        };
+        (time, written)
     }
 
     pub fn plain(&mut self) -> Duration {
         self.make_fresh();
         let began = Instant::now();
-        replay(&self.trace, &mut self.memory, &self.flash, &mut self.plain_lines);
+        replay_into(&self.trace, &mut self.plain_lines);
         began.elapsed()
     }
 }
@@ -76,7 +79,7 @@ pub fn compare_and_time() {
         assert!(&job.library_lines[..written] == lines, "the two programs' lines differ");
         assert_all_accepted(lines, job.calls);
     }
-    let (bytes, written) = (job.trace.len(), job.plain_lines.written().len());
+    let (bytes, written) = (job.trace.len(), job.plain_lines.length());
     println!("replay of {} calls: {bytes} bytes of trace and {written} of equal lines", job.calls);
     println!("  no call refused or failed; least of {TURNS} turns each, taken in turn");
     report("proved", proved, job.calls);

@@ -1,13 +1,13 @@
 //! The limits, the board's words and what makes a board good.
 
-use std::slice::ChunksExact;
-
 /// Most processes on a board.
 pub const MAX_PROCESSES: usize = 8;
 /// Most drivers on a board.
 pub const MAX_DRIVERS: usize = 16;
 /// Most slots of each of the three kinds that one driver has.
 pub const MAX_SLOTS: u32 = 4;
+/// How many kinds of slots there are.
+pub const SLOT_KINDS: usize = 3;
 /// Bytes of the memory image, and bytes of the flash image.
 pub const IMAGE_SIZE: usize = 65_536;
 
@@ -20,6 +20,11 @@ pub const FLASH: Area = Area::new(0x0004_0000, 0x0005_0000);
 pub const PROCESS_WORDS: usize = 7;
 /// Words of one driver on a board.
 pub const DRIVER_WORDS: usize = 5;
+
+/// A process as a board writes it: S, E, G, B, F, FE and the permission mask.
+pub type ProcessWords = [u32; PROCESS_WORDS];
+/// A driver as a board writes it: its number, three slot counts, and shared.
+pub type DriverWords = [u32; DRIVER_WORDS];
 
 /// Words of the largest board.
 pub const MAX_BOARD_WORDS: usize = board_words(MAX_PROCESSES, MAX_DRIVERS);
@@ -48,6 +53,20 @@ pub struct DriverNumber(pub u32);
 #[derive(Clone, Copy, Debug, PartialEq, Eq)]
 pub struct DriverPlace(pub usize);
 
+/// What a slot is for.
+#[derive(Clone, Copy, Debug, PartialEq, Eq)]
+pub enum SlotKind {
+    Subscribe,
+    ReadWrite,
+    ReadOnly,
+}
+
+impl SlotKind {
+    /// In the order in which a board counts a driver's slots.
+    pub const ALL: [SlotKind; SLOT_KINDS] =
+        [SlotKind::Subscribe, SlotKind::ReadWrite, SlotKind::ReadOnly];
+}
+
 /// The addresses from `start` up to, not including, `end`.
 #[derive(Clone, Copy, Debug, PartialEq, Eq)]
 pub struct Area {
@@ -61,13 +80,15 @@ impl Area {
     }
 
     pub fn contains(self, address: u32) -> bool {
-        self.start <= address && address < self.end
+        self.holds(address, 1)
     }
 
     /// Whether `size` bytes from `address` on lie wholly inside. The sum is
-    /// taken in 64 bits: in 32 bits it would wrap to a small address.
+    /// taken in 64 bits: in 32 bits it would wrap to a small address. Both
+    /// sides are looked at: which one decides cannot be guessed.
+    #[inline(always)]
     pub fn holds(self, address: u32, size: u32) -> bool {
-        self.start <= address && u64::from(address) + u64::from(size) <= u64::from(self.end)
+        (self.start <= address) & (u64::from(address) + u64::from(size) <= u64::from(self.end))
     }
 
     fn is_empty(self) -> bool {
@@ -99,18 +120,40 @@ pub struct ProcessBoard {
 }
 
 impl ProcessBoard {
-    fn from_words(words: &[u32]) -> ProcessBoard {
+    pub fn from_words(words: &ProcessWords) -> ProcessBoard {
+        let &[ram_start, ram_end, grant_start, first_break, flash_start, flash_end, permissions] =
+            words;
         ProcessBoard {
-            ram: Area::new(words[0], words[1]),
-            grant_start: words[2],
-            first_break: words[3],
-            flash: Area::new(words[4], words[5]),
-            permissions: words[6],
+            ram: Area::new(ram_start, ram_end),
+            grant_start,
+            first_break,
+            flash: Area::new(flash_start, flash_end),
+            permissions,
         }
     }
 
+    pub fn words(&self) -> ProcessWords {
+        let ProcessBoard { ram, grant_start, first_break, flash, permissions } = *self;
+        [ram.start, ram.end, grant_start, first_break, flash.start, flash.end, permissions]
+    }
+
+    #[inline(always)]
     pub fn permits(&self, driver: DriverPlace) -> bool {
         (self.permissions >> driver.0) & 1 == 1
+    }
+
+    /// Whether a slot of this kind may hold the pair while the break is there:
+    /// an upcall that is null or points into flash; a buffer that is empty, or
+    /// lies wholly in RAM below the break or (read-only) in flash. All of it is
+    /// looked at: what decides could not be guessed.
+    #[inline(always)]
+    pub fn accepts(&self, app_break: u32, kind: SlotKind, [first, second]: [u32; 2]) -> bool {
+        let in_ram = || Area::new(self.ram.start, app_break).holds(first, second);
+        match kind {
+            SlotKind::Subscribe => first == 0 || self.flash.contains(first),
+            SlotKind::ReadWrite => second == 0 || in_ram(),
+            SlotKind::ReadOnly => second == 0 || in_ram() || self.flash.holds(first, second),
+        }
     }
 
     fn is_good(&self, drivers: usize) -> bool {
@@ -128,63 +171,60 @@ impl ProcessBoard {
     fn has_good_flash(&self) -> bool {
         self.flash.lies_in(FLASH) && !self.flash.is_empty()
     }
+
+    fn is_disjoint_from(&self, other: &ProcessBoard) -> bool {
+        self.ram.is_disjoint_from(other.ram) && self.flash.is_disjoint_from(other.flash)
+    }
 }
 
 /// What the board says of one driver.
 #[derive(Clone, Copy, Debug, PartialEq, Eq)]
 pub struct DriverBoard {
     pub number: DriverNumber,
-    pub subscribe_slots: u32,
-    pub read_write_slots: u32,
-    pub read_only_slots: u32,
+    /// How many slots of each kind it has.
+    slots: [u32; SLOT_KINDS],
     pub shared: bool,
 }
 
 impl DriverBoard {
-    /// None if the shared word is neither 0 nor 1.
-    fn from_words(words: &[u32]) -> Option<DriverBoard> {
-        let shared = match words[4] {
-            0 => false,
-            1 => true,
-            _ => return None,
-        };
-        Some(DriverBoard {
-            number: DriverNumber(words[0]),
-            subscribe_slots: words[1],
-            read_write_slots: words[2],
-            read_only_slots: words[3],
-            shared,
-        })
+    /// Of the words of a good driver.
+    pub fn from_words(words: &DriverWords) -> DriverBoard {
+        let &[number, subscribe, read_write, read_only, shared] = words;
+        let slots = [subscribe, read_write, read_only];
+        DriverBoard { number: DriverNumber(number), slots, shared: shared == 1 }
     }
 
-    fn is_good(&self) -> bool {
-        [self.subscribe_slots, self.read_write_slots, self.read_only_slots]
-            .iter()
-            .all(|&slots| slots <= MAX_SLOTS)
+    pub fn words(&self) -> DriverWords {
+        let [subscribe, read_write, read_only] = self.slots;
+        [self.number.0, subscribe, read_write, read_only, u32::from(self.shared)]
+    }
+
+    /// How many slots of this kind the driver has.
+    #[inline(always)]
+    pub fn slots(&self, kind: SlotKind) -> u32 {
+        self.slots[kind as usize]
     }
 }
 
-/// A good board: there is no other way to get one than `from_words`.
+/// A good board: there is no other way to get one than from words.
 #[derive(Clone, Debug, PartialEq, Eq)]
 pub struct Board {
     processes: Vec<ProcessBoard>,
     drivers: Vec<DriverBoard>,
+    numbers: DriverNumbers,
 }
 
 impl Board {
     /// The board that these words describe, or None if it is not good.
     pub fn from_words(words: &[u32]) -> Option<Board> {
         let (processes, drivers) = split_words(words)?;
-        let counts_are_good =
-            (1..=MAX_PROCESSES).contains(&processes.len()) && drivers.len() <= MAX_DRIVERS;
-        if !counts_are_good {
+        if !is_good_board(processes, drivers) {
             return None;
         }
-        let board = Board {
-            processes: processes.map(ProcessBoard::from_words).collect(),
-            drivers: drivers.map(DriverBoard::from_words).collect::<Option<_>>()?,
-        };
-        board.is_good().then_some(board)
+        let processes = processes.iter().map(ProcessBoard::from_words).collect();
+        let drivers: Vec<_> = drivers.iter().map(DriverBoard::from_words).collect();
+        let numbers = DriverNumbers::of(&drivers);
+        Some(Board { processes, drivers, numbers })
     }
 
     pub fn processes(&self) -> &[ProcessBoard] {
@@ -196,29 +236,67 @@ impl Board {
     }
 
     /// Where the driver stands on the board, if it is installed.
+    #[inline(always)]
     pub fn find_driver(&self, number: DriverNumber) -> Option<DriverPlace> {
-        self.drivers.iter().position(|driver| driver.number == number).map(DriverPlace)
+        self.numbers.find(number)
+    }
+}
+
+/// Whether a board with these processes and drivers is good.
+pub fn is_good_board(processes: &[ProcessWords], drivers: &[DriverWords]) -> bool {
+    (1..=MAX_PROCESSES).contains(&processes.len())
+        && drivers.len() <= MAX_DRIVERS
+        && processes.iter().all(|words| ProcessBoard::from_words(words).is_good(drivers.len()))
+        && drivers.iter().all(is_good_driver)
+        && every_pair(processes, |a, b| {
+            ProcessBoard::from_words(a).is_disjoint_from(&ProcessBoard::from_words(b))
+        })
+        && every_pair(drivers, |[a, ..], [b, ..]| a != b)
+}
+
+fn is_good_driver(words: &DriverWords) -> bool {
+    let [_, slots @ .., shared] = words;
+    slots.iter().all(|&slots| slots <= MAX_SLOTS) && *shared <= 1
+}
+
+/// The drivers' numbers side by side, so that all can be compared at once:
+/// where a search stops could not be guessed.
+#[derive(Clone, Debug, Default, PartialEq, Eq)]
+struct DriverNumbers {
+    numbers: [u32; MAX_DRIVERS],
+    /// Bit k alone at each place k that a driver has, and none at the others.
+    bits: [u32; MAX_DRIVERS],
+}
+
+impl DriverNumbers {
+    fn of(drivers: &[DriverBoard]) -> DriverNumbers {
+        let mut all = DriverNumbers::default();
+        for (place, driver) in drivers.iter().enumerate() {
+            all.numbers[place] = driver.number.0;
+            all.bits[place] = 1 << place;
+        }
+        all
     }
 
-    fn is_good(&self) -> bool {
-        let drivers = self.drivers.len();
-        self.processes.iter().all(|process| process.is_good(drivers))
-            && self.drivers.iter().all(DriverBoard::is_good)
-            && every_pair(&self.processes, |a, b| a.ram.is_disjoint_from(b.ram))
-            && every_pair(&self.processes, |a, b| a.flash.is_disjoint_from(b.flash))
-            && every_pair(&self.drivers, |a, b| a.number != b.number)
+    #[inline(always)]
+    fn find(&self, number: DriverNumber) -> Option<DriverPlace> {
+        let mut found = 0_u32;
+        for (&other, &bit) in self.numbers.iter().zip(&self.bits) {
+            found |= if other == number.0 { bit } else { 0 };
+        }
+        (found != 0).then_some(DriverPlace(found.trailing_zeros() as usize))
     }
 }
 
 /// The words of each process and of each driver, if the two counts among the
 /// words fit their length. Counts beyond the limits can fit too.
-pub fn split_words(words: &[u32]) -> Option<(ChunksExact<'_, u32>, ChunksExact<'_, u32>)> {
+pub fn split_words(words: &[u32]) -> Option<(&[ProcessWords], &[DriverWords])> {
     let (&processes, rest) = words.split_first()?;
     let (processes, rest) =
         rest.split_at_checked(PROCESS_WORDS.checked_mul(processes as usize)?)?;
     let (&drivers, rest) = rest.split_first()?;
     let fits = DRIVER_WORDS.checked_mul(drivers as usize)? == rest.len();
-    fits.then(|| (processes.chunks_exact(PROCESS_WORDS), rest.chunks_exact(DRIVER_WORDS)))
+    fits.then_some((processes.as_chunks().0, rest.as_chunks().0))
 }
 
 fn every_pair<T>(items: &[T], holds: impl Fn(&T, &T) -> bool) -> bool {

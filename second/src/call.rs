@@ -1,87 +1,38 @@
 //! The seven call classes.
 
-use crate::board::{DriverNumber, DriverPlace, ProcessIndex};
-use crate::state::{memory_place, Access, Activity, Buffer, Machine, Upcall};
+use crate::board::{
+    Board, DriverNumber, DriverPlace, ProcessBoard, ProcessIndex, SlotKind, IMAGE_SIZE,
+};
+use crate::state::{Activity, DriverState, Machine, Pair, Process, Slot};
 use crate::step::{Answer, Refusal};
 use crate::variant::{ErrorCode, Registers, ReturnVariant};
 
 use ErrorCode::{Invalid, NoDevice, NoMem, NoSupport, Reserve};
 use ReturnVariant::{Failure, FailureWith2U32, Success, SuccessWith2U32, SuccessWithU32};
 
-/// A call whose class and number are known.
-#[derive(Clone, Copy, Debug, PartialEq, Eq)]
-enum Call {
-    YieldNoWait { field: u32 },
-    YieldWait,
-    Subscribe { driver: DriverNumber, slot: u32, upcall: Upcall },
-    Command { driver: DriverNumber, number: u32 },
-    Allow { access: Access, driver: DriverNumber, slot: u32, buffer: Buffer },
-    Break { to: u32 },
-    BreakBy { change: i32 },
-    Query(Query),
-    Exit { restart: bool, code: u32 },
+/// The kind of slot that classes 1, 3 and 4 are about, by class. A table, as a
+/// choice between the three could not be guessed.
+const KIND_OF_CLASS: [SlotKind; 5] = {
+    use SlotKind::{ReadOnly, ReadWrite, Subscribe};
+    [Subscribe, Subscribe, Subscribe, ReadWrite, ReadOnly]
+};
+
+/// What takes the outcome of a call.
+pub trait TakesOutcome {
+    type Taken;
+
+    fn take(self, outcome: Result<Answer, Refusal>) -> Self::Taken;
 }
 
-/// Memops 2 to 6.
-#[derive(Clone, Copy, Debug, PartialEq, Eq)]
-enum Query {
-    RamStart,
-    RamEnd,
-    FlashStart,
-    FlashEnd,
-    GrantStart,
-}
+/// Gets the outcome as it is.
+struct Caller;
 
-/// The known call, or the answer for a register set that is set aside.
-fn decode(class: u8, [r0, r1, r2, r3]: Registers) -> Result<Call, Answer> {
-    let driver = DriverNumber(r0);
-    let buffer = Buffer { address: r2, size: r3 };
-    match class {
-        0 => decode_yield(r0, r1).ok_or(Answer::Nothing),
-        1 => Ok(Call::Subscribe { driver, slot: r1, upcall: Upcall { pointer: r2, data: r3 } }),
-        2 => Ok(Call::Command { driver, number: r1 }),
-        3 => Ok(Call::Allow { access: Access::ReadWrite, driver, slot: r1, buffer }),
-        4 => Ok(Call::Allow { access: Access::ReadOnly, driver, slot: r1, buffer }),
-        5 => decode_memop(r0, r1).ok_or(Answer::Returned(Failure(NoSupport))),
-        6 => decode_exit(r0, r1).ok_or(Answer::Returned(Failure(NoSupport))),
-        _ => Err(Answer::Returned(Failure(NoSupport))),
+impl TakesOutcome for Caller {
+    type Taken = Result<Answer, Refusal>;
+
+    fn take(self, outcome: Result<Answer, Refusal>) -> Self::Taken {
+        outcome
     }
-}
-
-fn decode_yield(number: u32, field: u32) -> Option<Call> {
-    match number {
-        0 => Some(Call::YieldNoWait { field }),
-        1 => Some(Call::YieldWait),
-        _ => None,
-    }
-}
-
-fn decode_memop(number: u32, argument: u32) -> Option<Call> {
-    Some(match number {
-        0 => Call::Break { to: argument },
-        1 => Call::BreakBy { change: argument as i32 },
-        2 => Call::Query(Query::RamStart),
-        3 => Call::Query(Query::RamEnd),
-        4 => Call::Query(Query::FlashStart),
-        5 => Call::Query(Query::FlashEnd),
-        6 => Call::Query(Query::GrantStart),
-        _ => return None,
-    })
-}
-
-fn decode_exit(number: u32, code: u32) -> Option<Call> {
-    match number {
-        0 => Some(Call::Exit { restart: false, code }),
-        1 => Some(Call::Exit { restart: true, code }),
-        _ => None,
-    }
-}
-
-/// A driver as a calling process finds it.
-enum Reached {
-    Permitted(DriverPlace),
-    Denied,
-    NotInstalled,
 }
 
 impl Machine {
@@ -92,208 +43,236 @@ impl Machine {
         class: u8,
         registers: Registers,
     ) -> Result<Answer, Refusal> {
-        self.check_not_exited(process)?;
-        if self.processes[process.place()].activity == Activity::Waiting {
-            return Err(Refusal::CallWhileWaiting);
-        }
-        Ok(match decode(class, registers) {
-            Ok(call) => self.make_call(process, call),
-            Err(set_aside) => set_aside,
-        })
+        self.call_for(process, class, registers, Caller)
     }
 
-    fn make_call(&mut self, process: ProcessIndex, call: Call) -> Answer {
-        Answer::Returned(match call {
-            Call::YieldNoWait { field } => return self.yield_no_wait(process, field),
-            Call::YieldWait => return self.processes[process.place()].deliver_or_wait(),
-            Call::Exit { restart, code } => return self.exit(process, restart, code),
-            Call::Subscribe { driver, slot, upcall } => {
-                self.subscribe(process, driver, slot, upcall)
-            }
-            Call::Command { driver, number } => self.command(process, driver, number),
-            Call::Allow { access, driver, slot, buffer } => {
-                self.allow(process, access, driver, slot, buffer)
-            }
-            Call::Break { to } => self.break_to(process, to),
-            Call::BreakBy { change } => self.break_by(process, change),
-            Call::Query(query) => SuccessWithU32(self.query(process, query)),
-        })
-    }
-
-    fn yield_no_wait(&mut self, process: ProcessIndex, field: u32) -> Answer {
-        let delivered = self.processes[process.place()].deliver();
-        if self.accessible_ram(process).contains(field) {
-            self.memory[memory_place(field)] = u8::from(delivered.is_some());
-        }
-        delivered.unwrap_or(Answer::Nothing)
-    }
-
-    fn subscribe(
+    /// A call whose outcome is handed over. The frequent classes do so each in
+    /// a place of its own: one choice by class then serves the call and what
+    /// is done with its outcome.
+    #[inline(always)]
+    pub fn call_for<T: TakesOutcome>(
         &mut self,
         process: ProcessIndex,
-        driver: DriverNumber,
-        slot: u32,
-        upcall: Upcall,
-    ) -> ReturnVariant {
-        let failure = |code| FailureWith2U32(code, upcall.pointer, upcall.data);
-        let driver = match self.reach(process, driver) {
-            Reached::Permitted(driver) => driver,
-            Reached::Denied => return Failure(NoDevice),
-            Reached::NotInstalled => return FailureWith2U32(NoDevice, 0, 0),
-        };
-        let pointer_is_valid = self.is_upcall_pointer(process, upcall.pointer);
+        class: u8,
+        registers: Registers,
+        taker: T,
+    ) -> T::Taken {
+        if let Err(refusal) = self.may_call(process) {
+            return taker.take(Err(refusal));
+        }
         let record = &mut self.processes[process.place()];
-        let Some(held) = record.slots[driver.0].subscribe.get_mut(slot as usize) else {
-            return failure(NoSupport);
-        };
-        if !pointer_is_valid {
-            return failure(Invalid);
+        match class {
+            0 => taker.take(Ok(record.yields(registers, &mut self.memory))),
+            1 | 3 | 4 => {
+                let kind = KIND_OF_CLASS[usize::from(class)];
+                taker.take(Ok(Answer::Returned(record.exchange(&self.board, kind, registers))))
+            }
+            _ => taker.take(Ok(self.other_call(process, class, registers))),
         }
-        let old = std::mem::replace(held, upcall);
-        record.cancel(driver, slot);
-        SuccessWith2U32(old.pointer, old.data)
     }
 
-    fn allow(
-        &mut self,
-        process: ProcessIndex,
-        access: Access,
-        driver: DriverNumber,
-        slot: u32,
-        buffer: Buffer,
-    ) -> ReturnVariant {
-        let failure = |code| FailureWith2U32(code, buffer.address, buffer.size);
-        let driver = match self.reach(process, driver) {
-            Reached::Permitted(driver) => driver,
-            Reached::Denied => return Failure(NoDevice),
-            Reached::NotInstalled => return failure(NoDevice),
-        };
-        let buffer_is_accessible = self.is_accessible(process, access, buffer);
-        let slots = &mut self.processes[process.place()].slots[driver.0];
-        let Some(held) = slots.buffers_mut(access).get_mut(slot as usize) else {
-            return failure(NoSupport);
-        };
-        if !buffer_is_accessible {
-            return failure(Invalid);
+    /// Refusals 3, 4 and 5.
+    #[inline(always)]
+    fn may_call(&self, process: ProcessIndex) -> Result<(), Refusal> {
+        match self.not_exited(process)?.activity {
+            Activity::Waiting => Err(Refusal::CallWhileWaiting),
+            Activity::Running | Activity::Exited => Ok(()),
         }
-        let old = std::mem::replace(held, buffer);
-        SuccessWith2U32(old.address, old.size)
     }
 
-    fn command(
-        &mut self,
-        process: ProcessIndex,
-        driver: DriverNumber,
-        number: u32,
-    ) -> ReturnVariant {
-        let Reached::Permitted(driver) = self.reach(process, driver) else {
+    #[inline(never)]
+    fn other_call(&mut self, process: ProcessIndex, class: u8, registers: Registers) -> Answer {
+        Answer::Returned(match class {
+            2 => self.command(process, registers),
+            5 => self.processes[process.place()].memop(registers),
+            6 => return self.exit(process, registers),
+            _ => Failure(NoSupport),
+        })
+    }
+
+    fn command(&mut self, process: ProcessIndex, [driver, number, ..]: Registers) -> ReturnVariant {
+        let Ok(driver) = reach(&self.board, self.process_board(process), DriverNumber(driver))
+        else {
             return Failure(NoDevice);
         };
         let shared = self.board.drivers()[driver.0].shared;
+        let state = &mut self.drivers[driver.0];
         match number {
             0 => Success,
-            1 if shared => self.claim(process, driver),
-            2 if shared => self.release(process, driver),
-            3 if shared => self.read(process, driver),
+            1 if shared => state.claim(process),
+            2 if shared => state.release(process),
+            3 if shared => state.read(process),
             _ => Failure(NoSupport),
         }
     }
 
-    fn claim(&mut self, process: ProcessIndex, driver: DriverPlace) -> ReturnVariant {
-        let owner = &mut self.drivers[driver.0].owner;
-        if owner.is_some_and(|owner| owner != process) {
-            return Failure(Reserve);
+    /// RAM bytes and latches stay.
+    fn exit(&mut self, process: ProcessIndex, [number, code, ..]: Registers) -> Answer {
+        let (activity, answer) = match number {
+            0 => (Activity::Exited, Answer::Exited { code }),
+            1 => (Activity::Running, Answer::Restarted { code }),
+            _ => return Answer::Returned(Failure(NoSupport)),
+        };
+        let record = &mut self.processes[process.place()];
+        record.clear();
+        record.activity = activity;
+        for driver in &mut self.drivers {
+            if driver.owner == Some(process) {
+                driver.owner = None;
+            }
         }
-        *owner = Some(process);
-        Success
+        answer
+    }
+}
+
+/// Why a call does not reach a driver.
+enum Unreached {
+    Denied,
+    NotInstalled,
+}
+
+/// The driver that a process calls.
+#[inline(always)]
+fn reach(
+    board: &Board,
+    process: &ProcessBoard,
+    number: DriverNumber,
+) -> Result<DriverPlace, Unreached> {
+    let driver = board.find_driver(number).ok_or(Unreached::NotInstalled)?;
+    if process.permits(driver) {
+        Ok(driver)
+    } else {
+        Err(Unreached::Denied)
+    }
+}
+
+impl Unreached {
+    /// The answer to a subscribe or an allow.
+    fn answer(self, kind: SlotKind, [first, second]: Pair) -> ReturnVariant {
+        match (self, kind) {
+            (Unreached::Denied, _) => Failure(NoDevice),
+            (Unreached::NotInstalled, SlotKind::Subscribe) => FailureWith2U32(NoDevice, 0, 0),
+            (Unreached::NotInstalled, _) => FailureWith2U32(NoDevice, first, second),
+        }
+    }
+}
+
+impl Process {
+    /// Subscribe and both allows: a pair goes into a slot, and the old one
+    /// comes back. A subscribe also cancels what is queued of its slot.
+    #[inline(always)]
+    fn exchange(
+        &mut self,
+        board: &Board,
+        kind: SlotKind,
+        [driver, number, first, second]: Registers,
+    ) -> ReturnVariant {
+        let driver = match reach(board, &self.board, DriverNumber(driver)) {
+            Ok(driver) => driver,
+            Err(unreached) => return unreached.answer(kind, [first, second]),
+        };
+        if number >= board.drivers()[driver.0].slots(kind) {
+            return FailureWith2U32(NoSupport, first, second);
+        }
+        if !self.accepts(kind, [first, second]) {
+            return FailureWith2U32(Invalid, first, second);
+        }
+        if !self.queue.is_empty() && kind == SlotKind::Subscribe {
+            self.cancel(driver, number);
+        }
+        let held = self.pair_mut(Slot { kind, driver, number });
+        let [old_first, old_second] = std::mem::replace(held, [first, second]);
+        SuccessWith2U32(old_first, old_second)
     }
 
-    fn release(&mut self, process: ProcessIndex, driver: DriverPlace) -> ReturnVariant {
-        let owner = &mut self.drivers[driver.0].owner;
-        if *owner != Some(process) {
-            return Failure(Reserve);
+    #[inline(always)]
+    fn yields(&mut self, [number, field, ..]: Registers, memory: &mut [u8]) -> Answer {
+        match number {
+            0 => self.yield_no_wait(field, memory),
+            1 => self.deliver_or_wait(),
+            _ => Answer::Nothing,
         }
-        *owner = None;
-        Success
     }
 
-    fn read(&self, process: ProcessIndex, driver: DriverPlace) -> ReturnVariant {
-        let state = self.drivers[driver.0];
-        if state.owner != Some(process) {
-            return Failure(Reserve);
-        }
-        SuccessWithU32(state.latch as u32)
+    /// The byte at `field` tells whether an upcall came, if the process may
+    /// write there. Some byte is written in any case, else with what it held:
+    /// whether the field is the process's own could not be guessed.
+    #[inline(always)]
+    fn yield_no_wait(&mut self, field: u32, memory: &mut [u8]) -> Answer {
+        let delivered = self.deliver();
+        // The memory image begins at a multiple of its size.
+        let byte = &mut memory[field as usize % IMAGE_SIZE];
+        let kept = u8::from(self.accessible_ram().contains(field)).wrapping_sub(1);
+        *byte = *byte & kept | u8::from(delivered.is_some()) & !kept;
+        delivered.unwrap_or(Answer::Nothing)
     }
 
-    fn break_to(&mut self, process: ProcessIndex, to: u32) -> ReturnVariant {
-        match self.set_break(process, i64::from(to)) {
+    fn memop(&mut self, [number, argument, ..]: Registers) -> ReturnVariant {
+        match number {
+            0 => self.break_to(argument),
+            1 => self.break_by(argument as i32),
+            2 => SuccessWithU32(self.board.ram.start),
+            3 => SuccessWithU32(self.board.ram.end),
+            4 => SuccessWithU32(self.board.flash.start),
+            5 => SuccessWithU32(self.board.flash.end),
+            6 => SuccessWithU32(self.board.grant_start),
+            _ => Failure(NoSupport),
+        }
+    }
+
+    fn break_to(&mut self, to: u32) -> ReturnVariant {
+        match self.set_break(i64::from(to)) {
             Some(_) => Success,
             None => Failure(NoMem),
         }
     }
 
-    fn break_by(&mut self, process: ProcessIndex, change: i32) -> ReturnVariant {
-        let now = self.processes[process.place()].app_break;
-        match self.set_break(process, i64::from(now) + i64::from(change)) {
+    fn break_by(&mut self, change: i32) -> ReturnVariant {
+        match self.set_break(i64::from(self.app_break) + i64::from(change)) {
             Some(old) => SuccessWithU32(old),
             None => Failure(NoMem),
         }
     }
 
     /// Moves the break and gives the old one, or None and no change.
-    fn set_break(&mut self, process: ProcessIndex, new: i64) -> Option<u32> {
-        let board = *self.process_board(process);
-        let record = &mut self.processes[process.place()];
+    fn set_break(&mut self, new: i64) -> Option<u32> {
+        let ProcessBoard { ram, grant_start, .. } = self.board;
         let new = u32::try_from(new).ok()?;
-        if new < board.ram.start || board.grant_start < new {
+        if new < ram.start || grant_start < new {
             return None;
         }
         // A held buffer that is not empty lies in this process's RAM or flash.
-        let blocked = record.held_buffers().any(|held| {
-            !held.is_empty() && board.ram.contains(held.address) && held.end() > u64::from(new)
+        let blocked = self.held_buffers().any(|held| {
+            !held.is_empty() && ram.contains(held.address) && held.end() > u64::from(new)
         });
         if blocked {
             return None;
         }
-        Some(std::mem::replace(&mut record.app_break, new))
+        Some(std::mem::replace(&mut self.app_break, new))
+    }
+}
+
+impl DriverState {
+    fn claim(&mut self, process: ProcessIndex) -> ReturnVariant {
+        if self.owner.is_some_and(|owner| owner != process) {
+            return Failure(Reserve);
+        }
+        self.owner = Some(process);
+        Success
     }
 
-    fn query(&self, process: ProcessIndex, query: Query) -> u32 {
-        let board = self.process_board(process);
-        match query {
-            Query::RamStart => board.ram.start,
-            Query::RamEnd => board.ram.end,
-            Query::FlashStart => board.flash.start,
-            Query::FlashEnd => board.flash.end,
-            Query::GrantStart => board.grant_start,
+    fn release(&mut self, process: ProcessIndex) -> ReturnVariant {
+        if self.owner != Some(process) {
+            return Failure(Reserve);
         }
+        self.owner = None;
+        Success
     }
 
-    /// RAM bytes and latches stay.
-    fn exit(&mut self, process: ProcessIndex, restart: bool, code: u32) -> Answer {
-        let first_break = self.process_board(process).first_break;
-        let record = &mut self.processes[process.place()];
-        record.clear(first_break);
-        for driver in &mut self.drivers {
-            if driver.owner == Some(process) {
-                driver.owner = None;
-            }
+    fn read(&self, process: ProcessIndex) -> ReturnVariant {
+        if self.owner != Some(process) {
+            return Failure(Reserve);
         }
-        if restart {
-            Answer::Restarted { code }
-        } else {
-            record.activity = Activity::Exited;
-            Answer::Exited { code }
-        }
-    }
-
-    fn reach(&self, process: ProcessIndex, number: DriverNumber) -> Reached {
-        match self.board.find_driver(number) {
-            None => Reached::NotInstalled,
-            Some(driver) if self.process_board(process).permits(driver) => {
-                Reached::Permitted(driver)
-            }
-            Some(_) => Reached::Denied,
-        }
+        SuccessWithU32(self.latch as u32)
     }
 }

@@ -4,10 +4,12 @@
 pub mod boards;
 pub mod boundary;
 pub mod broken;
+pub mod calls;
 pub mod corpus;
 pub mod long;
 pub mod script;
 pub mod spoil;
+pub mod tables;
 pub mod walk;
 
 use crate::random::Random;

@@ -20,6 +20,11 @@ impl Random {
         random
     }
 
+    /// The generator that goes on from this state.
+    pub fn from_state(state: u64) -> Random {
+        Random { state }
+    }
+
     fn next(&mut self) -> u64 {
         self.state = self.state.wrapping_add(STRIDE);
         let mixed = (self.state ^ (self.state >> 30)).wrapping_mul(0xBF58_476D_1CE4_E5B9);

@@ -1,15 +1,20 @@
-//! What is kept between steps: process records with their slots and queues,
-//! the claims on shared drivers, and the two images.
+//! What is kept between steps: processes with their slots and queues, the
+//! claims on shared drivers, and the two images.
 
 use std::collections::VecDeque;
 
 use crate::board::{
-    Area, Board, DriverBoard, DriverPlace, ProcessBoard, ProcessIndex, FLASH, IMAGE_SIZE, MEMORY,
+    Area, Board, DriverBoard, DriverPlace, ProcessBoard, ProcessIndex, SlotKind, FLASH, IMAGE_SIZE,
+    MAX_DRIVERS, MAX_SLOTS, MEMORY, SLOT_KINDS,
 };
 use crate::step::Refusal;
 
 /// Most upcalls queued for one process.
 pub const QUEUE_CAPACITY: usize = 16;
+
+/// What a slot holds: an upcall's pointer and data, or a buffer's address and
+/// size. A fresh slot of any kind holds (0, 0).
+pub type Pair = [u32; 2];
 
 /// What a subscribe slot holds. Pointer 0 is the Null Upcall.
 #[derive(Clone, Copy, Debug, Default, PartialEq, Eq)]
@@ -21,6 +26,12 @@ pub struct Upcall {
 impl Upcall {
     pub fn is_null(self) -> bool {
         self.pointer == 0
+    }
+}
+
+impl From<Pair> for Upcall {
+    fn from([pointer, data]: Pair) -> Upcall {
+        Upcall { pointer, data }
     }
 }
 
@@ -42,49 +53,18 @@ impl Buffer {
     }
 }
 
-/// The two kinds of allow.
+impl From<Pair> for Buffer {
+    fn from([address, size]: Pair) -> Buffer {
+        Buffer { address, size }
+    }
+}
+
+/// A slot of a process: a kind, a driver and a number that the driver has.
 #[derive(Clone, Copy, Debug, PartialEq, Eq)]
-pub enum Access {
-    ReadWrite,
-    ReadOnly,
-}
-
-/// One process's slots at one driver.
-#[derive(Clone, Debug, PartialEq, Eq)]
-pub struct DriverSlots {
-    pub subscribe: Vec<Upcall>,
-    pub read_write: Vec<Buffer>,
-    pub read_only: Vec<Buffer>,
-}
-
-impl DriverSlots {
-    fn fresh(driver: &DriverBoard) -> DriverSlots {
-        DriverSlots {
-            subscribe: vec![Upcall::default(); driver.subscribe_slots as usize],
-            read_write: vec![Buffer::default(); driver.read_write_slots as usize],
-            read_only: vec![Buffer::default(); driver.read_only_slots as usize],
-        }
-    }
-
-    fn clear(&mut self) {
-        self.subscribe.fill(Upcall::default());
-        self.read_write.fill(Buffer::default());
-        self.read_only.fill(Buffer::default());
-    }
-
-    pub fn buffers(&self, access: Access) -> &[Buffer] {
-        match access {
-            Access::ReadWrite => &self.read_write,
-            Access::ReadOnly => &self.read_only,
-        }
-    }
-
-    pub fn buffers_mut(&mut self, access: Access) -> &mut [Buffer] {
-        match access {
-            Access::ReadWrite => &mut self.read_write,
-            Access::ReadOnly => &mut self.read_only,
-        }
-    }
+pub struct Slot {
+    pub kind: SlotKind,
+    pub driver: DriverPlace,
+    pub number: u32,
 }
 
 /// An upcall that waits for delivery. It keeps the pointer and data that its
@@ -104,32 +84,56 @@ pub enum Activity {
     Exited,
 }
 
-/// A process's record.
+/// A process: what the board says of it, and what steps change.
 #[derive(Clone, Debug, PartialEq, Eq)]
 pub struct Process {
+    pub board: ProcessBoard,
     pub activity: Activity,
     /// The break: accessible RAM ends before it.
     pub app_break: u32,
-    /// By driver, in board order.
-    pub slots: Vec<DriverSlots>,
+    /// By kind, driver and number. Those that the board does not have stay
+    /// (0, 0).
+    slots: [[[Pair; MAX_SLOTS as usize]; MAX_DRIVERS]; SLOT_KINDS],
     pub queue: VecDeque<QueuedUpcall>,
 }
 
 impl Process {
-    fn fresh(process: &ProcessBoard, drivers: &[DriverBoard]) -> Process {
+    fn fresh(board: ProcessBoard) -> Process {
         Process {
+            board,
             activity: Activity::Running,
-            app_break: process.first_break,
-            slots: drivers.iter().map(DriverSlots::fresh).collect(),
+            app_break: board.first_break,
+            slots: Default::default(),
             queue: VecDeque::with_capacity(QUEUE_CAPACITY),
         }
     }
 
-    /// What an exit does to the record, whichever way it exits.
-    pub fn clear(&mut self, first_break: u32) {
-        self.slots.iter_mut().for_each(DriverSlots::clear);
-        self.queue.clear();
-        self.app_break = first_break;
+    /// What an exit leaves of it, whichever way it exits: a fresh one.
+    pub fn clear(&mut self) {
+        *self = Process::fresh(self.board);
+    }
+
+    /// What a slot holds.
+    #[inline(always)]
+    pub fn pair(&self, slot: Slot) -> Pair {
+        self.slots[slot.kind as usize][slot.driver.0][slot.number as usize]
+    }
+
+    #[inline(always)]
+    pub fn pair_mut(&mut self, slot: Slot) -> &mut Pair {
+        &mut self.slots[slot.kind as usize][slot.driver.0][slot.number as usize]
+    }
+
+    /// [S, break)
+    #[inline(always)]
+    pub fn accessible_ram(&self) -> Area {
+        Area { end: self.app_break, ..self.board.ram }
+    }
+
+    /// Whether a slot of this kind may hold the pair.
+    #[inline(always)]
+    pub fn accepts(&self, kind: SlotKind, pair: Pair) -> bool {
+        self.board.accepts(self.app_break, kind, pair)
     }
 
     /// Removes the queued upcalls of one slot; the others keep their order.
@@ -138,9 +142,11 @@ impl Process {
         self.queue.retain(|queued| (queued.driver, queued.slot) != (driver, slot));
     }
 
-    /// Every held buffer, read-write and read-only.
+    /// Every held buffer, read-write and read-only, driver by driver.
     pub fn held_buffers(&self) -> impl Iterator<Item = Buffer> + '_ {
-        self.slots.iter().flat_map(|slots| slots.read_write.iter().chain(&slots.read_only)).copied()
+        let [_, read_write, read_only] = &self.slots;
+        let pairs = read_write.iter().zip(read_only).flat_map(|(rw, ro)| rw.iter().chain(ro));
+        pairs.map(|&pair| Buffer::from(pair))
     }
 }
 
@@ -167,13 +173,8 @@ impl Machine {
     /// The start: a fresh state on a good board, with images of zeros.
     pub fn start(words: &[u32]) -> Result<Machine, Refusal> {
         let board = Board::from_words(words).ok_or(Refusal::BoardNotGood)?;
-        let processes = board
-            .processes()
-            .iter()
-            .map(|process| Process::fresh(process, board.drivers()))
-            .collect();
         Ok(Machine {
-            processes,
+            processes: board.processes().iter().copied().map(Process::fresh).collect(),
             drivers: vec![DriverState::default(); board.drivers().len()],
             memory: vec![0; IMAGE_SIZE],
             flash: vec![0; IMAGE_SIZE],
@@ -183,32 +184,18 @@ impl Machine {
 
     /// What the board says of a process that exists.
     pub fn process_board(&self, process: ProcessIndex) -> &ProcessBoard {
-        &self.board.processes()[process.place()]
+        &self.processes[process.place()].board
     }
 
-    /// [S, break)
+    /// [S, break) of a process that exists.
     pub fn accessible_ram(&self, process: ProcessIndex) -> Area {
-        Area { end: self.processes[process.place()].app_break, ..self.process_board(process).ram }
-    }
-
-    /// Whether the process may lend this buffer: any empty one, or one wholly
-    /// in its RAM below the break, or (read-only) wholly in its flash.
-    pub fn is_accessible(&self, process: ProcessIndex, access: Access, buffer: Buffer) -> bool {
-        let Buffer { address, size } = buffer;
-        buffer.is_empty()
-            || self.accessible_ram(process).holds(address, size)
-            || access == Access::ReadOnly && self.process_board(process).flash.holds(address, size)
-    }
-
-    /// Whether the pointer may be subscribed: the Null Upcall, or in flash.
-    pub fn is_upcall_pointer(&self, process: ProcessIndex, pointer: u32) -> bool {
-        pointer == 0 || self.process_board(process).flash.contains(pointer)
+        self.processes[process.place()].accessible_ram()
     }
 
     /// Well formed as document 01 says, for a state instead of a table. Every
     /// step keeps it; the tests ask.
     pub fn is_well_formed(&self) -> bool {
-        self.indices().all(|process| self.has_well_formed_record(process))
+        self.processes.iter().all(|process| self.has_well_formed_state(process))
             && self.board.drivers().iter().zip(&self.drivers).all(|(board, state)| {
                 match (board.shared, state.owner) {
                     (true, owner) => owner.is_none_or(|owner| self.may_own(owner, board)),
@@ -222,47 +209,49 @@ impl Machine {
         (0..self.processes.len() as u32).map(ProcessIndex)
     }
 
+    /// Every slot that the board's drivers have.
+    pub fn slots(&self) -> impl Iterator<Item = Slot> + '_ {
+        SlotKind::ALL.into_iter().flat_map(|kind| self.slots_of(kind))
+    }
+
+    /// Every slot of this kind that the board's drivers have.
+    pub fn slots_of(&self, kind: SlotKind) -> impl Iterator<Item = Slot> + '_ {
+        self.board.drivers().iter().enumerate().flat_map(move |(place, driver)| {
+            let driver_place = DriverPlace(place);
+            (0..driver.slots(kind)).map(move |number| Slot { kind, driver: driver_place, number })
+        })
+    }
+
     fn may_own(&self, owner: ProcessIndex, driver: &DriverBoard) -> bool {
         let Some(process) = self.processes.get(owner.place()) else {
             return false;
         };
         let place = self.board.find_driver(driver.number);
         process.activity != Activity::Exited
-            && place.is_some_and(|place| self.process_board(owner).permits(place))
+            && place.is_some_and(|place| process.board.permits(place))
     }
 
-    fn has_well_formed_record(&self, process: ProcessIndex) -> bool {
-        let board = self.process_board(process);
-        let record = &self.processes[process.place()];
-        board.ram.start <= record.app_break
-            && record.app_break <= board.grant_start
-            && record.slots.iter().all(|slots| self.has_well_formed_slots(process, slots))
-            && record.queue.len() <= QUEUE_CAPACITY
-            && record.queue.iter().all(|queued| is_well_formed_entry(record, queued))
-            && (record.activity != Activity::Exited || self.is_cleared(process))
+    fn has_well_formed_state(&self, process: &Process) -> bool {
+        process.board.ram.start <= process.app_break
+            && process.app_break <= process.board.grant_start
+            && self.slots().all(|slot| process.accepts(slot.kind, process.pair(slot)))
+            && process.queue.len() <= QUEUE_CAPACITY
+            && process.queue.iter().all(|queued| self.is_well_formed_entry(process, queued))
+            && (process.activity != Activity::Exited || is_cleared(process))
     }
 
-    fn has_well_formed_slots(&self, process: ProcessIndex, slots: &DriverSlots) -> bool {
-        let pointers = slots.subscribe.iter().map(|upcall| upcall.pointer);
-        pointers.into_iter().all(|pointer| self.is_upcall_pointer(process, pointer))
-            && [Access::ReadWrite, Access::ReadOnly].into_iter().all(|access| {
-                let mut buffers = slots.buffers(access).iter();
-                buffers.all(|&buffer| self.is_accessible(process, access, buffer))
-            })
-    }
-
-    fn is_cleared(&self, process: ProcessIndex) -> bool {
-        let mut cleared = Process::fresh(self.process_board(process), self.board.drivers());
-        cleared.activity = Activity::Exited;
-        self.processes[process.place()] == cleared
+    /// The entry names an existing slot and carries what that slot holds.
+    fn is_well_formed_entry(&self, process: &Process, queued: &QueuedUpcall) -> bool {
+        let &QueuedUpcall { driver, slot: number, upcall, .. } = queued;
+        let slot = Slot { kind: SlotKind::Subscribe, driver, number };
+        let exists = self.slots_of(SlotKind::Subscribe).any(|other| other == slot);
+        exists && !upcall.is_null() && Upcall::from(process.pair(slot)) == upcall
     }
 }
 
-/// The entry names an existing slot and carries what that slot holds.
-fn is_well_formed_entry(record: &Process, queued: &QueuedUpcall) -> bool {
-    let slots = record.slots.get(queued.driver.0);
-    let held = slots.and_then(|slots| slots.subscribe.get(queued.slot as usize));
-    !queued.upcall.is_null() && held == Some(&queued.upcall)
+fn is_cleared(process: &Process) -> bool {
+    let cleared = Process { activity: process.activity, ..Process::fresh(process.board) };
+    *process == cleared
 }
 
 /// Where an address stands in the memory image. Only for addresses in it.

@@ -1,8 +1,8 @@
 //! The steps, their answers and their refusals. Calls are in `call`.
 
-use crate::board::{DriverNumber, DriverPlace, ProcessIndex, FLASH};
+use crate::board::{DriverNumber, DriverPlace, ProcessIndex, SlotKind, FLASH};
 use crate::state::{
-    flash_place, memory_place, Access, Activity, Buffer, Machine, Process, QueuedUpcall,
+    flash_place, memory_place, Activity, Buffer, Machine, Process, QueuedUpcall, Slot, Upcall,
     QUEUE_CAPACITY,
 };
 use crate::variant::{Registers, ReturnVariant};
@@ -115,28 +115,26 @@ impl Machine {
         slot: u32,
         arguments: [u32; 3],
     ) -> Result<Answer, Refusal> {
-        self.check_not_exited(process)?;
-        let driver = self.installed(driver)?;
+        self.not_exited(process)?;
+        let named = self.existing(SlotKind::Subscribe, driver, slot)?;
         let record = &mut self.processes[process.place()];
-        let upcall = *existing(&record.slots[driver.0].subscribe, slot)?;
+        let upcall = Upcall::from(record.pair(named));
         if upcall.is_null() {
             return Err(Refusal::NullUpcall);
         }
         if record.queue.len() == QUEUE_CAPACITY {
             return Err(Refusal::QueueFull);
         }
-        record.queue.push_back(QueuedUpcall { driver, slot, arguments, upcall });
+        record.queue.push_back(QueuedUpcall { driver: named.driver, slot, arguments, upcall });
         Ok(Answer::EventTaken)
     }
 
     /// Delivers to a waiting process. Refused in the order 3, 4, 6.
     pub fn resume(&mut self, process: ProcessIndex) -> Result<Answer, Refusal> {
-        self.check_not_exited(process)?;
-        let record = &mut self.processes[process.place()];
-        if record.activity == Activity::Running {
+        if self.not_exited(process)?.activity == Activity::Running {
             return Err(Refusal::ResumeWhileRunning);
         }
-        Ok(record.deliver_or_wait())
+        Ok(self.processes[process.place()].deliver_or_wait())
     }
 
     /// Writes into a held read-write buffer. Refused in the order 3, 4, 7, 8, 9.
@@ -148,7 +146,7 @@ impl Machine {
         offset: u32,
         bytes: &[u8],
     ) -> Result<Answer, Refusal> {
-        let held = self.held(process, driver, Access::ReadWrite, slot)?;
+        let held = self.held(process, driver, SlotKind::ReadWrite, slot)?;
         check_within(held, offset, bytes.len() as u64)?;
         // An empty deposit touches no address: the buffer's may be outside the image.
         if !bytes.is_empty() {
@@ -167,7 +165,7 @@ impl Machine {
         offset: u32,
         length: u32,
     ) -> Result<Answer, Refusal> {
-        let held = self.held(process, driver, Access::ReadOnly, slot)?;
+        let held = self.held(process, driver, SlotKind::ReadOnly, slot)?;
         check_within(held, offset, u64::from(length))?;
         let part = if length == 0 { Part::EMPTY } else { Part::of(held, offset, length) };
         Ok(Answer::Fetched(part))
@@ -193,11 +191,12 @@ impl Machine {
     }
 
     /// Refusals 3 and 4.
-    pub(crate) fn check_not_exited(&self, process: ProcessIndex) -> Result<(), Refusal> {
+    #[inline(always)]
+    pub(crate) fn not_exited(&self, process: ProcessIndex) -> Result<&Process, Refusal> {
         let record = self.processes.get(process.place()).ok_or(Refusal::NoSuchProcess)?;
         match record.activity {
             Activity::Exited => Err(Refusal::ProcessExited),
-            Activity::Running | Activity::Waiting => Ok(()),
+            Activity::Running | Activity::Waiting => Ok(record),
         }
     }
 
@@ -206,23 +205,32 @@ impl Machine {
         self.board.find_driver(driver).ok_or(Refusal::DriverNotInstalled)
     }
 
+    /// The slot that a step names: refusals 7 and 8.
+    fn existing(&self, kind: SlotKind, driver: DriverNumber, number: u32) -> Result<Slot, Refusal> {
+        let driver = self.installed(driver)?;
+        if number >= self.board.drivers()[driver.0].slots(kind) {
+            return Err(Refusal::NoSuchSlot);
+        }
+        Ok(Slot { kind, driver, number })
+    }
+
     /// The held buffer that a deposit or fetch names: refusals 3, 4, 7, 8.
-    fn held(
+    pub(crate) fn held(
         &self,
         process: ProcessIndex,
         driver: DriverNumber,
-        access: Access,
+        kind: SlotKind,
         slot: u32,
     ) -> Result<Buffer, Refusal> {
-        self.check_not_exited(process)?;
-        let driver = self.installed(driver)?;
-        let slots = &self.processes[process.place()].slots[driver.0];
-        existing(slots.buffers(access), slot).copied()
+        let record = self.not_exited(process)?;
+        let slot = self.existing(kind, driver, slot)?;
+        Ok(record.pair(slot).into())
     }
 }
 
 impl Process {
     /// Removes the first queued upcall and gives it to the process.
+    #[inline(always)]
     pub(crate) fn deliver(&mut self) -> Option<Answer> {
         let QueuedUpcall { arguments, upcall, .. } = self.queue.pop_front()?;
         let [argument0, argument1, argument2] = arguments;
@@ -246,11 +254,6 @@ impl Process {
             }
         }
     }
-}
-
-/// Refusal 8.
-fn existing<T>(slots: &[T], slot: u32) -> Result<&T, Refusal> {
-    slots.get(slot as usize).ok_or(Refusal::NoSuchSlot)
 }
 
 /// Refusal 9, the sum taken exactly.

@@ -1,7 +1,11 @@
-//! Traces: numbers, the board record, step records, and writing them.
+//! Traces: the board record, step records, and writing them.
 
 use crate::board::{DriverNumber, ProcessIndex, MAX_BOARD_WORDS};
+use crate::number::{number_in, MORE};
 use crate::step::Step;
+use crate::variant::Registers;
+
+pub use crate::number::{read_number, write_number, write_numbers, BadNumber, MAX_GROUPS};
 
 /// Most bytes of a trace that the program takes.
 pub const MAX_TRACE_BYTES: usize = 65_536;
@@ -10,12 +14,6 @@ pub const MAX_DEPOSIT_BYTES: u32 = 1_024;
 
 /// The largest class that a call record can name.
 pub const MAX_CLASS: u32 = 255;
-
-/// Most groups of seven bits that a number has.
-pub const MAX_GROUPS: usize = 5;
-
-const GROUP_BITS: u32 = 7;
-const MORE: u8 = 0x80;
 
 /// The kind number that leads each step.
 pub mod kind {
@@ -33,30 +31,38 @@ pub struct Broken {
     pub offset: usize,
 }
 
-/// Why bytes do not begin with a number.
-#[derive(Clone, Copy, Debug, PartialEq, Eq)]
-pub enum BadNumber {
-    Cut,
-    NotShortest,
-    Over32Bits,
-    TooManyGroups,
-}
+/// Bytes that hold the numbers of any record: a call has seven, each of at most
+/// five bytes, and a number is looked at together with the bytes after it,
+/// eight in all.
+const WINDOW: usize = 6 * MAX_GROUPS + 8;
 
 /// A trace and the place up to which it has been read.
 #[derive(Clone, Debug)]
 pub struct Reader<'a> {
     trace: &'a [u8],
     place: usize,
+    /// The last bytes of the trace again, and zeros after them: a record near
+    /// the end is read here, so that only its end has to be looked for.
+    tail: [u8; 2 * WINDOW],
 }
 
 impl<'a> Reader<'a> {
     pub fn new(trace: &'a [u8]) -> Reader<'a> {
-        Reader { trace, place: 0 }
+        let last = &trace[trace.len().saturating_sub(WINDOW)..];
+        let mut tail = [0; 2 * WINDOW];
+        tail[..last.len()].copy_from_slice(last);
+        Reader { trace, place: 0, tail }
     }
 
     /// The offset of the next byte.
+    #[inline(always)]
     pub fn place(&self) -> usize {
         self.place
+    }
+
+    #[inline(always)]
+    pub fn is_at_end(&self) -> bool {
+        self.place == self.trace.len()
     }
 
     /// The board record: a count and that many words. Comes first.
@@ -67,11 +73,76 @@ impl<'a> Reader<'a> {
 
     /// The next step, or None at the end of the trace.
     pub fn step(&mut self) -> Result<Option<Step<'a>>, Broken> {
-        let offset = self.place;
-        if offset == self.trace.len() {
+        if self.is_at_end() {
             return Ok(None);
         }
-        self.step_fields().map(Some).ok_or(Broken { offset })
+        let offset = self.place;
+        let step = if self.is_at_call() {
+            self.call().map(|(process, class, registers)| Step::Call { process, class, registers })
+        } else {
+            self.driver_step()
+        };
+        step.map(Some).ok_or(Broken { offset })
+    }
+
+    /// Whether a record that starts here is a call: its kind is one byte.
+    #[inline(always)]
+    pub fn is_at_call(&self) -> bool {
+        self.trace.get(self.place).is_some_and(|&byte| u32::from(byte) == kind::CALL)
+    }
+
+    /// The call that starts here. Its second register is mostly a slot.
+    #[inline(always)]
+    pub fn call(&mut self) -> Option<(ProcessIndex, u8, Registers)> {
+        let mut numbers = self.numbers();
+        numbers.next_small()?;
+        let (process, class) = (numbers.process()?, numbers.class()?);
+        let registers = [numbers.next()?, numbers.next_small()?, numbers.next()?, numbers.next()?];
+        let read = numbers.read;
+        self.pass(read)?;
+        Some((process, class, registers))
+    }
+
+    /// The step of another kind that starts here.
+    pub fn driver_step(&mut self) -> Option<Step<'a>> {
+        let mut numbers = self.numbers();
+        let step = match numbers.next()? {
+            kind::EVENT => Step::Event {
+                process: numbers.process()?,
+                driver: numbers.driver()?,
+                slot: numbers.next()?,
+                arguments: [numbers.next()?, numbers.next()?, numbers.next()?],
+            },
+            kind::RESUME => Step::Resume { process: numbers.process()? },
+            kind::DEPOSIT => return self.deposit(),
+            kind::FETCH => Step::Fetch {
+                process: numbers.process()?,
+                driver: numbers.driver()?,
+                slot: numbers.next()?,
+                offset: numbers.next()?,
+                length: numbers.next()?,
+            },
+            kind::LATCH => Step::Latch { driver: numbers.driver()?, peak: numbers.next()? as i32 },
+            _ => return None,
+        };
+        let read = numbers.read;
+        self.pass(read)?;
+        Some(step)
+    }
+
+    /// A deposit's bytes are handed on as they stand in the trace.
+    fn deposit(&mut self) -> Option<Step<'a>> {
+        let mut numbers = self.numbers();
+        numbers.next()?;
+        let (process, driver) = (numbers.process()?, numbers.driver()?);
+        let (slot, offset, length) = (numbers.next()?, numbers.next()?, numbers.next()?);
+        if length > MAX_DEPOSIT_BYTES {
+            return None;
+        }
+        let read = numbers.read;
+        self.pass(read)?;
+        let bytes = self.pass(length as usize)?;
+        Some(Step::Deposit { process, driver, slot, offset, bytes })
     }
 
     fn board_words(&mut self) -> Option<Vec<u32>> {
@@ -82,104 +153,82 @@ impl<'a> Reader<'a> {
         (0..count).map(|_| self.number()).collect()
     }
 
-    fn step_fields(&mut self) -> Option<Step<'a>> {
-        Some(match self.number()? {
-            kind::CALL => Step::Call {
-                process: self.process()?,
-                class: self.class()?,
-                registers: self.numbers()?,
-            },
-            kind::EVENT => Step::Event {
-                process: self.process()?,
-                driver: self.driver()?,
-                slot: self.number()?,
-                arguments: self.numbers()?,
-            },
-            kind::RESUME => Step::Resume { process: self.process()? },
-            kind::DEPOSIT => Step::Deposit {
-                process: self.process()?,
-                driver: self.driver()?,
-                slot: self.number()?,
-                offset: self.number()?,
-                bytes: self.deposit_bytes()?,
-            },
-            kind::FETCH => Step::Fetch {
-                process: self.process()?,
-                driver: self.driver()?,
-                slot: self.number()?,
-                offset: self.number()?,
-                length: self.number()?,
-            },
-            kind::LATCH => Step::Latch { driver: self.driver()?, peak: self.number()? as i32 },
-            _ => return None,
-        })
+    /// One number by itself.
+    fn number(&mut self) -> Option<u32> {
+        let mut numbers = self.numbers();
+        let number = numbers.next()?;
+        let read = numbers.read;
+        self.pass(read)?;
+        Some(number)
     }
 
+    /// The numbers from here on. Past the end of the trace they are zeros:
+    /// whoever reads them has to pass over what was read.
+    #[inline(always)]
+    fn numbers(&self) -> Numbers<'_> {
+        let window = match self.trace[self.place..].first_chunk() {
+            Some(window) => window,
+            None => self.window_at_end(),
+        };
+        Numbers { window, read: 0 }
+    }
+
+    #[cold]
+    fn window_at_end(&self) -> &[u8; WINDOW] {
+        let tail_place = self.trace.len().saturating_sub(WINDOW);
+        self.tail[self.place - tail_place..].first_chunk().expect("the tail has two windows")
+    }
+
+    /// Goes over so many bytes, if the trace has them.
+    #[inline(always)]
+    fn pass(&mut self, length: usize) -> Option<&'a [u8]> {
+        let passed = self.trace[self.place..].get(..length)?;
+        self.place += length;
+        Some(passed)
+    }
+}
+
+/// The numbers of one record, and how many of their bytes are read.
+struct Numbers<'w> {
+    window: &'w [u8; WINDOW],
+    read: usize,
+}
+
+impl Numbers<'_> {
+    #[inline(always)]
     fn process(&mut self) -> Option<ProcessIndex> {
-        self.number().map(ProcessIndex)
+        self.next_small().map(ProcessIndex)
     }
 
     fn driver(&mut self) -> Option<DriverNumber> {
-        self.number().map(DriverNumber)
+        self.next().map(DriverNumber)
     }
 
+    #[inline(always)]
     fn class(&mut self) -> Option<u8> {
-        let class = self.number()?;
+        let class = self.next_small()?;
         (class <= MAX_CLASS).then_some(class as u8)
     }
 
-    /// A length and that many bytes, handed on as they stand in the trace.
-    fn deposit_bytes(&mut self) -> Option<&'a [u8]> {
-        let length = self.number()?;
-        if length > MAX_DEPOSIT_BYTES {
-            return None;
+    /// A number that mostly has one byte: that is guessed right, and what
+    /// follows need not wait for its length.
+    #[inline(always)]
+    fn next_small(&mut self) -> Option<u32> {
+        let byte = self.window[self.read];
+        if byte & MORE != 0 {
+            return self.next();
         }
-        let bytes = self.trace[self.place..].get(..length as usize)?;
-        self.place += bytes.len();
-        Some(bytes)
+        self.read += 1;
+        Some(u32::from(byte))
     }
 
-    fn numbers<const COUNT: usize>(&mut self) -> Option<[u32; COUNT]> {
-        let mut numbers = [0; COUNT];
-        for number in &mut numbers {
-            *number = self.number()?;
-        }
-        Some(numbers)
-    }
-
-    fn number(&mut self) -> Option<u32> {
-        let (number, length) = read_number(&self.trace[self.place..]).ok()?;
-        self.place += length;
+    #[inline(always)]
+    fn next(&mut self) -> Option<u32> {
+        let bytes = self.window[self.read..].first_chunk()?;
+        let (number, length) = number_in(*bytes).ok()?;
+        self.read += length;
         Some(number)
     }
-}
-
-/// The number that the bytes begin with, in its shortest form and at most 32
-/// bits, and how many bytes it has.
-pub fn read_number(bytes: &[u8]) -> Result<(u32, usize), BadNumber> {
-    let mut value = 0_u64;
-    for group in 0..MAX_GROUPS {
-        let byte = *bytes.get(group).ok_or(BadNumber::Cut)?;
-        value |= u64::from(byte & !MORE) << (GROUP_BITS * group as u32);
-        if byte & MORE == 0 {
-            // A last group of zeros could have been left out.
-            if byte == 0 && group > 0 {
-                return Err(BadNumber::NotShortest);
-            }
-            let number = u32::try_from(value).map_err(|_| BadNumber::Over32Bits)?;
-            return Ok((number, group + 1));
-        }
-    }
-    Err(BadNumber::TooManyGroups)
-}
-
-/// Appends a number in its shortest form.
-pub fn write_number(trace: &mut Vec<u8>, mut number: u32) {
-    while number >= u32::from(MORE) {
-        trace.push(number as u8 | MORE);
-        number >>= GROUP_BITS;
-    }
-    trace.push(number as u8);
 }
 
 /// Appends a board record. More words than a board may have are written too:
@@ -224,11 +273,4 @@ pub fn write_trace(words: &[u32], steps: &[Step]) -> Vec<u8> {
         write_step(&mut trace, step);
     }
     trace
-}
-
-/// Appends numbers, each in its shortest form.
-pub fn write_numbers(trace: &mut Vec<u8>, numbers: &[u32]) {
-    for &number in numbers {
-        write_number(trace, number);
-    }
 }

@@ -1,11 +1,11 @@
 //! Boundary traces: sweeps over values at and next to every edge.
 
-use crate::board::{DriverNumber, ProcessIndex, MAX_SLOTS};
+use crate::board::{DriverNumber, ProcessIndex, SlotKind, MAX_SLOTS};
 use crate::generate::boards::{good_board, Shape};
-use crate::generate::script::{Script, SlotKind, SlotPlace};
+use crate::generate::script::{Script, SlotPlace};
 use crate::generate::walk::{deposit_part, reveal, set_break};
 use crate::random::Random;
-use crate::state::{Access, QUEUE_CAPACITY};
+use crate::state::QUEUE_CAPACITY;
 
 const MOST_BYTES: usize = 24_000;
 
@@ -52,7 +52,7 @@ fn own_slot(script: &mut Script, process: ProcessIndex, kind: SlotKind) -> Optio
 
 fn sweep_allows(script: &mut Script, process: ProcessIndex) {
     let access = script.pick_access();
-    let Some(place) = own_slot(script, process, SlotKind::Allow(access)) else {
+    let Some(place) = own_slot(script, process, access) else {
         return;
     };
     for _ in 0..16 {
@@ -64,22 +64,19 @@ fn sweep_allows(script: &mut Script, process: ProcessIndex) {
 /// Parts of a held buffer that end at its end, one before and one after it.
 fn sweep_parts(script: &mut Script, process: ProcessIndex) {
     let access = script.pick_access();
-    let Some(place) = own_slot(script, process, SlotKind::Allow(access)) else {
+    let Some(place) = own_slot(script, process, access) else {
         return;
     };
     let buffer = script.good_buffer(process, access);
     script.allow(access, place, buffer);
     let driver = script.driver_number(place.driver);
     for _ in 0..12 {
-        match access {
-            Access::ReadWrite => {
-                let (offset, length) = deposit_part(script, buffer.size);
-                script.deposit(process, driver, place.slot, offset, length);
-            }
-            Access::ReadOnly => {
-                let (offset, length) = script.edge_part(buffer.size);
-                script.fetch(process, driver, place.slot, offset, length);
-            }
+        if access == SlotKind::ReadWrite {
+            let (offset, length) = deposit_part(script, buffer.size);
+            script.deposit(process, driver, place.slot, offset, length);
+        } else {
+            let (offset, length) = script.edge_part(buffer.size);
+            script.fetch(process, driver, place.slot, offset, length);
         }
     }
 }
@@ -125,11 +122,11 @@ fn sweep_fields(script: &mut Script, process: ProcessIndex) {
             script.yield_no_wait(process, field);
         }
     }
-    let place = own_slot(script, process, SlotKind::Allow(Access::ReadOnly));
+    let place = own_slot(script, process, SlotKind::ReadOnly);
     if let Some(place) = place.filter(|_| ram.start < ram.end) {
         let driver = script.driver_number(place.driver);
         for address in [ram.start, ram.end - 1] {
-            script.slot_call(SlotKind::Allow(Access::ReadOnly), place, [address, 1]);
+            script.slot_call(SlotKind::ReadOnly, place, [address, 1]);
             script.fetch(process, driver, place.slot, 0, 1);
         }
     }

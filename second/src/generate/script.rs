@@ -1,8 +1,10 @@
 //! A trace in the making, together with the state that it has reached.
 
-use crate::board::{Area, DriverNumber, DriverPlace, ProcessIndex, FLASH, MAX_SLOTS, MEMORY};
+use crate::board::{
+    Area, DriverNumber, DriverPlace, ProcessIndex, SlotKind, FLASH, MAX_SLOTS, MEMORY,
+};
 use crate::random::Random;
-use crate::state::{Access, Activity, Buffer, Machine, Upcall};
+use crate::state::{Activity, Buffer, Machine, Pair, Slot, Upcall};
 use crate::step::{Answer, Refusal, Step};
 use crate::trace::{write_board, write_step};
 use crate::variant::Registers;
@@ -10,13 +12,6 @@ use crate::variant::Registers;
 /// Bytes that the fetches of one trace give together, at most; it keeps the
 /// outputs small.
 const FETCH_BUDGET: u32 = 40_000;
-
-/// What a slot is for.
-#[derive(Clone, Copy, Debug, PartialEq, Eq)]
-pub enum SlotKind {
-    Subscribe,
-    Allow(Access),
-}
 
 /// One process's slot at one driver.
 #[derive(Clone, Copy, Debug, PartialEq, Eq)]
@@ -99,16 +94,16 @@ impl Script {
         let Some(record) = self.machine.processes.get(process.place()) else {
             return false;
         };
-        let mut upcalls = record.slots.iter().flat_map(|slots| &slots.subscribe);
-        !record.queue.is_empty() || upcalls.any(|upcall| !upcall.is_null())
+        let mut slots = self.machine.slots_of(SlotKind::Subscribe);
+        !record.queue.is_empty() || slots.any(|slot| !Upcall::from(record.pair(slot)).is_null())
     }
 
     /// A call of classes 1, 3 or 4 that names an existing slot.
     pub fn slot_call(&mut self, kind: SlotKind, place: SlotPlace, values: [u32; 2]) {
         let class = match kind {
             SlotKind::Subscribe => 1,
-            SlotKind::Allow(Access::ReadWrite) => 3,
-            SlotKind::Allow(Access::ReadOnly) => 4,
+            SlotKind::ReadWrite => 3,
+            SlotKind::ReadOnly => 4,
         };
         let number = self.driver_number(place.driver).0;
         self.call(place.process, class, [number, place.slot, values[0], values[1]]);
@@ -119,8 +114,8 @@ impl Script {
         self.slot_call(SlotKind::Subscribe, place, [pointer, data]);
     }
 
-    pub fn allow(&mut self, access: Access, place: SlotPlace, buffer: Buffer) {
-        self.slot_call(SlotKind::Allow(access), place, [buffer.address, buffer.size]);
+    pub fn allow(&mut self, access: SlotKind, place: SlotPlace, buffer: Buffer) {
+        self.slot_call(access, place, [buffer.address, buffer.size]);
     }
 
     pub fn event(&mut self, place: SlotPlace) {
@@ -148,7 +143,7 @@ impl Script {
         let bytes = self.random.bytes(length as usize);
         let step = Step::Deposit { process, driver, slot, offset, bytes: &bytes };
         if self.push(step).is_ok() {
-            if let Some(held) = self.held(process, driver, Access::ReadWrite, slot) {
+            if let Ok(held) = self.machine.held(process, driver, SlotKind::ReadWrite, slot) {
                 self.touch(held.address.wrapping_add(offset));
                 self.touch(held.address.wrapping_add(offset).wrapping_add(length));
             }
@@ -243,26 +238,18 @@ impl Script {
         self.machine.board.drivers()[driver.0].number
     }
 
+    /// What the slot holds.
+    pub fn pair(&self, kind: SlotKind, place: SlotPlace) -> Pair {
+        let slot = Slot { kind, driver: place.driver, number: place.slot };
+        self.machine.processes[place.process.place()].pair(slot)
+    }
+
     pub fn upcall(&self, place: SlotPlace) -> Upcall {
-        let record = &self.machine.processes[place.process.place()];
-        record.slots[place.driver.0].subscribe[place.slot as usize]
+        self.pair(SlotKind::Subscribe, place).into()
     }
 
-    pub fn buffer(&self, access: Access, place: SlotPlace) -> Buffer {
-        let record = &self.machine.processes[place.process.place()];
-        record.slots[place.driver.0].buffers(access)[place.slot as usize]
-    }
-
-    fn held(
-        &self,
-        process: ProcessIndex,
-        driver: DriverNumber,
-        access: Access,
-        slot: u32,
-    ) -> Option<Buffer> {
-        let driver = self.machine.board.find_driver(driver)?;
-        let record = self.machine.processes.get(process.place())?;
-        record.slots[driver.0].buffers(access).get(slot as usize).copied()
+    pub fn buffer(&self, access: SlotKind, place: SlotPlace) -> Buffer {
+        self.pair(access, place).into()
     }
 
     pub fn permits(&self, place: SlotPlace) -> bool {
@@ -295,15 +282,12 @@ impl Script {
     pub fn slots(&self, kind: SlotKind) -> Vec<SlotPlace> {
         let mut places = Vec::new();
         for process in self.machine.indices() {
-            for (driver, board) in self.machine.board.drivers().iter().enumerate() {
-                let count = match kind {
-                    SlotKind::Subscribe => board.subscribe_slots,
-                    SlotKind::Allow(Access::ReadWrite) => board.read_write_slots,
-                    SlotKind::Allow(Access::ReadOnly) => board.read_only_slots,
-                };
-                let driver = DriverPlace(driver);
-                places.extend((0..count).map(|slot| SlotPlace { process, driver, slot }));
-            }
+            let slots = self.machine.slots_of(kind);
+            places.extend(slots.map(|Slot { driver, number, .. }| SlotPlace {
+                process,
+                driver,
+                slot: number,
+            }));
         }
         places
     }
@@ -318,8 +302,8 @@ impl Script {
         self.random.pick_any(&places)
     }
 
-    pub fn pick_access(&mut self) -> Access {
-        self.random.pick(&[Access::ReadWrite, Access::ReadOnly])
+    pub fn pick_access(&mut self) -> SlotKind {
+        self.random.pick(&[SlotKind::ReadWrite, SlotKind::ReadOnly])
     }
 
     /// Any process index, now and then one that is not on the board.
@@ -395,11 +379,11 @@ impl Script {
     }
 
     /// A buffer that an allow takes.
-    pub fn good_buffer(&mut self, process: ProcessIndex, access: Access) -> Buffer {
+    pub fn good_buffer(&mut self, process: ProcessIndex, access: SlotKind) -> Buffer {
         let ram = self.machine.accessible_ram(process);
         let flash = self.machine.process_board(process).flash;
         let area = match access {
-            Access::ReadOnly if self.random.one_in(3) => flash,
+            SlotKind::ReadOnly if self.random.one_in(3) => flash,
             _ => ram,
         };
         if area.start == area.end || self.random.one_in(10) {

@@ -1,10 +1,10 @@
 //! Walks: long runs of moves, each chosen for the state that is reached.
 
-use crate::board::{DriverNumber, ProcessIndex, FLASH, MEMORY};
+use crate::board::{DriverNumber, ProcessIndex, SlotKind, FLASH, MEMORY};
 use crate::generate::boards::{good_board, Shape};
-use crate::generate::script::{Script, SlotKind, SlotPlace};
+use crate::generate::script::{Script, SlotPlace};
 use crate::random::Random;
-use crate::state::{Access, Activity, Buffer, QUEUE_CAPACITY};
+use crate::state::{Activity, Buffer, QUEUE_CAPACITY};
 use crate::trace::MAX_DEPOSIT_BYTES;
 
 /// Bytes after which a walk makes no more moves, and after which the look at
@@ -255,7 +255,7 @@ fn cancel_among_twins(script: &mut Script) {
 
 fn allow(script: &mut Script) {
     let access = script.pick_access();
-    let Some(place) = script.pick_slot(SlotKind::Allow(access), Script::is_usable) else {
+    let Some(place) = script.pick_slot(access, Script::is_usable) else {
         return;
     };
     let buffer = script.good_buffer(place.process, access);
@@ -264,7 +264,7 @@ fn allow(script: &mut Script) {
 
 fn allow_at_edges(script: &mut Script) {
     let access = script.pick_access();
-    let Some(place) = script.pick_slot(SlotKind::Allow(access), Script::is_usable) else {
+    let Some(place) = script.pick_slot(access, Script::is_usable) else {
         return;
     };
     let buffer = script.edge_buffer(place.process);
@@ -302,7 +302,7 @@ fn lower_break_onto_buffers(script: &mut Script) {
     let held = |script: &Script, place: SlotPlace| {
         script.is_usable(place) && !script.buffer(access, place).is_empty()
     };
-    let Some(place) = script.pick_slot(SlotKind::Allow(access), held) else {
+    let Some(place) = script.pick_slot(access, held) else {
         return;
     };
     let buffer = script.buffer(access, place);
@@ -318,7 +318,7 @@ fn lower_break_onto_buffers(script: &mut Script) {
 }
 
 fn deposit(script: &mut Script) {
-    let access = Access::ReadWrite;
+    let access = SlotKind::ReadWrite;
     let Some(place) = pick_held(script, access) else {
         return;
     };
@@ -329,9 +329,9 @@ fn deposit(script: &mut Script) {
 }
 
 /// A slot of a live process, mostly one that holds a non-empty buffer.
-fn pick_held(script: &mut Script, access: Access) -> Option<SlotPlace> {
+fn pick_held(script: &mut Script, access: SlotKind) -> Option<SlotPlace> {
     let any = script.random.one_in(6);
-    script.pick_slot(SlotKind::Allow(access), |script, place| {
+    script.pick_slot(access, |script, place| {
         script.is_live(place.process) && (any || !script.buffer(access, place).is_empty())
     })
 }
@@ -348,7 +348,7 @@ pub fn deposit_part(script: &mut Script, size: u32) -> (u32, u32) {
 }
 
 fn fetch(script: &mut Script) {
-    let access = Access::ReadOnly;
+    let access = SlotKind::ReadOnly;
     let Some(place) = pick_held(script, access) else {
         return;
     };
@@ -361,7 +361,7 @@ fn fetch(script: &mut Script) {
 /// Lends some written bytes and the bytes beside them read-only, and fetches
 /// them: what a step wrote, and where, comes into the output.
 fn look_at_memory(script: &mut Script) {
-    if let Some(place) = script.pick_slot(SlotKind::Allow(Access::ReadOnly), Script::is_usable) {
+    if let Some(place) = script.pick_slot(SlotKind::ReadOnly, Script::is_usable) {
         look_through(script, place);
     }
 }
@@ -373,7 +373,7 @@ fn look_through(script: &mut Script, place: SlotPlace) {
     let ram = script.machine.accessible_ram(place.process);
     let first = address.saturating_sub(12).max(ram.start);
     let size = (ram.end - first).min(24);
-    script.allow(Access::ReadOnly, place, Buffer { address: first, size });
+    script.allow(SlotKind::ReadOnly, place, Buffer { address: first, size });
     let driver = script.driver_number(place.driver);
     script.fetch(place.process, driver, place.slot, 0, size);
 }
@@ -381,21 +381,21 @@ fn look_through(script: &mut Script, place: SlotPlace) {
 /// Fetches from flash after a deposit at the same place of the memory image:
 /// flash bytes are zeros, so a mix-up of the images shows.
 fn fetch_flash_beside_memory(script: &mut Script) {
-    let access = Access::ReadOnly;
-    let Some(reader) = script.pick_slot(SlotKind::Allow(access), Script::is_usable) else {
+    let access = SlotKind::ReadOnly;
+    let Some(reader) = script.pick_slot(access, Script::is_usable) else {
         return;
     };
     let flash = script.machine.process_board(reader.process).flash;
     let size = (flash.end - flash.start).min(8);
     let twin = Buffer { address: MEMORY.start + (flash.start - FLASH.start), size };
     let can_lend = |script: &Script, place: SlotPlace| {
-        script.is_usable(place)
-            && script.machine.is_accessible(place.process, Access::ReadWrite, twin)
+        let process = &script.machine.processes[place.process.place()];
+        script.is_usable(place) && process.accepts(SlotKind::ReadWrite, [twin.address, twin.size])
     };
-    let Some(writer) = script.pick_slot(SlotKind::Allow(Access::ReadWrite), can_lend) else {
+    let Some(writer) = script.pick_slot(SlotKind::ReadWrite, can_lend) else {
         return;
     };
-    script.allow(Access::ReadWrite, writer, twin);
+    script.allow(SlotKind::ReadWrite, writer, twin);
     let driver = script.driver_number(writer.driver);
     script.deposit(writer.process, driver, writer.slot, 0, size);
     script.allow(access, reader, Buffer { address: flash.start, size });
@@ -614,7 +614,7 @@ fn reveal_memory(script: &mut Script, process: ProcessIndex) {
     let own =
         |script: &Script, place: SlotPlace| place.process == process && script.is_usable(place);
     for _ in 0..3 {
-        if let Some(place) = script.pick_slot(SlotKind::Allow(Access::ReadOnly), own) {
+        if let Some(place) = script.pick_slot(SlotKind::ReadOnly, own) {
             look_through(script, place);
         }
     }
@@ -623,20 +623,11 @@ fn reveal_memory(script: &mut Script, process: ProcessIndex) {
 /// Takes everything back. On large boards most slots that hold nothing are
 /// passed over.
 fn reveal_slots(script: &mut Script, process: ProcessIndex) {
-    let kinds = [
-        SlotKind::Subscribe,
-        SlotKind::Allow(Access::ReadWrite),
-        SlotKind::Allow(Access::ReadOnly),
-    ];
-    for kind in kinds {
+    for kind in SlotKind::ALL {
         let mut places = script.slots(kind);
         places.retain(|&place| place.process == process && script.permits(place));
         for place in places {
-            let holds_nothing = match kind {
-                SlotKind::Subscribe => script.upcall(place) == Default::default(),
-                SlotKind::Allow(access) => script.buffer(access, place) == Default::default(),
-            };
-            if !holds_nothing || script.random.one_in(5) {
+            if script.pair(kind, place) != [0, 0] || script.random.one_in(5) {
                 script.slot_call(kind, place, [0, 0]);
             }
         }

@@ -48,7 +48,7 @@ fn list_board(words: &[u32], answer: &str, out: &mut impl Write) -> io::Result<(
     };
     write_record(out, 0, BOARD, answer)?;
     for (index, process) in (0..).zip(processes) {
-        write_board_line(out, &BOARD_PROCESS, &[&[index], process].concat())?;
+        write_board_line(out, &BOARD_PROCESS, &[&[index], &process[..]].concat())?;
     }
     for driver in drivers {
         write_board_line(out, &BOARD_DRIVER, driver)?;

@@ -2,15 +2,18 @@
 
 mod assembling;
 mod boards;
+mod calls;
 mod cases;
 mod common;
 mod generator;
 mod incident;
 mod listing;
 mod mistakes;
+mod numbers;
 mod programs;
 mod properties;
 mod readings;
 mod refusals;
 mod speed;
+mod table;
 mod traces;

@@ -1,8 +1,8 @@
 //! The settled readings 1 to 21, by number, as far as a trace can show them.
 
 use crate::common::*;
-use second::board::{DriverPlace, ProcessIndex};
-use second::state::{Buffer, Machine, Upcall, QUEUE_CAPACITY};
+use second::board::{DriverPlace, ProcessIndex, SlotKind};
+use second::state::{Machine, Slot, QUEUE_CAPACITY};
 use second::step::Step;
 use second::trace::{write_board, write_number, write_numbers, write_step, write_trace};
 
@@ -384,9 +384,9 @@ fn reading_20_no_accessible_ram() {
 #[test]
 fn reading_21_well_formed_does_not_ask_for_permission() {
     let mut machine = Machine::start(&with_mask(0)).expect("a good board");
-    let upcall = Upcall { pointer: 0x4_0010, data: 1 };
-    machine.processes[0].slots[0].subscribe[0] = upcall;
-    machine.processes[0].slots[0].read_write[0] = Buffer { address: 0x2000_0000, size: 4 };
+    let first_slot = |kind| Slot { kind, driver: DriverPlace(0), number: 0 };
+    *machine.processes[0].pair_mut(first_slot(SlotKind::Subscribe)) = [0x4_0010, 1];
+    *machine.processes[0].pair_mut(first_slot(SlotKind::ReadWrite)) = [0x2000_0000, 4];
     assert!(machine.is_well_formed());
     assert!(machine.step(event(0, CONSOLE, 0, [0; 3])).is_ok());
     assert_eq!(machine.processes[0].queue[0].driver, DriverPlace(0));
