@@ -14,17 +14,11 @@ array-share-prefix-lines c =
     let k = w .before .before .before .before .before .before .before in
     subst (λ n. w .written .given .0 .0 ≤ n) (sym (k .replay .kept .1 .1 .1 .1 .1 .0)) (ended-within _ _ _ _ _ _ _ (k .replay .ensures) (w .written .given .1))
 
-slice-aggregate-write-all : tie.Need-slice-aggregate-write-all
-slice-aggregate-write-all c = sym (length-take-le _ _ (array-share-prefix-lines (c .before)))
-
 array-share-prefix-lines-2 : tie.Need-array-share-prefix-lines-2
 array-share-prefix-lines-2 c =
     let w = c .before in
     let k = w .before .before .before .before .before .before .before in
     subst (λ n. w .next .given .0 .1 .0 ≤ n) (sym (k .replay .kept .1 .1 .1 .1 .1 .0)) (paused-within _ _ _ _ _ _ _ (k .replay .ensures) (w .next .given .1))
-
-slice-aggregate-write-all-2 : tie.Need-slice-aggregate-write-all-2
-slice-aggregate-write-all-2 c = sym (length-take-le _ _ (array-share-prefix-lines-2 (c .before)))
 
 returns-2 : tie.Need-returns-2
 returns-2 c =
@@ -40,11 +34,11 @@ write-lines-spec =
     (λ c κs. search needs)
     (λ c. search needs)
     array-share-prefix-lines
-    slice-aggregate-write-all
+    (λ c. sym (length-take-le _ _ (array-share-prefix-lines (c .before))))
     (λ c κs. search needs)
     (λ c. search needs)
     array-share-prefix-lines-2
-    slice-aggregate-write-all-2
+    (λ c. sym (length-take-le _ _ (array-share-prefix-lines-2 (c .before))))
     (λ c κs. search needs)
     (λ c. search needs)
     (λ c. search needs)
