@@ -1,8 +1,7 @@
 // The run over a trace: each record's step on what the last one left, and its line, while there is room for one.
 // The table is not looked at again: whether it is well formed is known once, and no step changes that.
 ghost use mathlib.Core.Path.{_≡_};
-ghost use mathlib.Core.List.{List};
-ghost use Prim.Native.Nat.{ℕ, _+_, _-_, _≤_, _<_};
+ghost use Prim.Native.Nat.{_+_, _-_, _≤_, _<_};
 ghost use lib.ListN.{length, take, drop};
 ghost use Rattle.definition.specs.Decide.{call, fetch};
 ghost use Rattle.definition.specs.World.{own};
