@@ -2,27 +2,30 @@
 use Prim.Native.Nat.{ℕ, _+_, _-_, _≤_}
 use mathlib.Core.Path.{_≡_, refl, sym, ap, _∙_, subst}
 use mathlib.Core.Logic.{_≢_}
-use mathlib.Core.Bool.{Bool, true, false}
-use mathlib.Core.List.{List, []}
+use mathlib.Core.Bool.{Bool, true, false, _||_, not}
+use mathlib.Core.List.{List, [], _∷_}
 use native.Mathlib.Omega.{arith}
 use lib.ListN.{length, take, drop}
 use lib.Dec.{eqb}
 use borrow.Author.Tests.{ltb-true, ltb-false, eqb-true, eqb-false, not-false}
-use Rattle.definition.specs.Tests.{if_then_else_}
+use Rattle.definition.specs.Tests.{if_then_else_, _when_, firstOf}
 use Rattle.definition.specs.Limits.{imageBytes, memoryBase, flashBase}
 use Rattle.definition.specs.Board.{Areas, readOnly, areasAt, placeOf, driverAt, slotsOf, hasSlot}
 use Rattle.definition.specs.State.{Pair, Process, held, slotAt}
-use Rattle.definition.specs.Answer.{Image, memory, flash, Part, emptyPart, fetched}
+use Rattle.definition.specs.Answer.{Image, memory, flash, Part, emptyPart, Answer, fetched, numberOf}
 use Rattle.definition.specs.Area.{Area, empty, inRam, inFlash, outside, accessible, holdable}
 use Rattle.definition.specs.Words.{part}
-use Rattle.definition.specs.Decide.{fetch, answers, partIn, partOf, decideAccepted, refusal, decide}
-use Rattle.definition.specs.World.{World, own, processAt, ramOf, viewOf, answerOf, perform, step}
+use Rattle.definition.specs.Decide.{fetch, Outcome, answers, partIn, partOf, decideAccepted, refusal, decide}
+use Rattle.definition.specs.World.{World, Step, own, Out, processAt, ramOf, viewOf, answerOf, perform, step}
+use Rattle.definition.specs.Image.{stateOf, wellFormed}
+use Rattle.definition.specs.Table.{Lent, notImage, wrongImage, worldOf, outOf, tableStep}
 use Rattle.laws.specs.Facts.{clash, either, passed}
 use Rattle.laws.specs.Rows.{part-part, part-length}
 use Rattle.laws.specs.Areas.{Lies, lies-nowhere, lies-ram, lies-flash, area-lies}
 use Rattle.laws.specs.Slots.{held-holdable}
 use Rattle.laws.specs.Boards.{Placed, placed, few-drivers, few-slots}
-use Rattle.laws.specs.Good.{Good}
+use Rattle.laws.specs.ImageBack.{well-formed-good}
+use Rattle.laws.specs.Good.{Good, good-of}
 
 -- the image that a part names
 abbrev pub imageIn : Image → World → List ℕ
@@ -111,3 +114,46 @@ pub fetch-hands : (p driver j offset n : ℕ) (w : World) (x : Part) → Good (w
     → step (own p (fetch driver j offset n)) w .answer ≡ fetched 0 x → PartHanded w n x
 unfolding step perform decide decideAccepted viewOf
 fetch-hands p driver j offset n w x g size flash-size e = answer-hands p w g size flash-size driver j offset n x _ refl e
+
+-- ---- over whatever is lent
+
+-- the answer to a fetch is its number and a part
+pub record Fetches (r : Answer) : Type 0 where
+  pub part : Part
+  pub whole : r ≡ fetched (numberOf r) part
+
+pub fetches : (p driver j offset n : ℕ) (x : Lent) → Fetches (tableStep (own p (fetch driver j offset n)) x .answer)
+unfolding tableStep step perform decide decideAccepted answerOf
+fetches p driver j offset n x = either (λ (o : Out Lent). Fetches (o .answer)) _ _ _
+    (λ _. either (λ (o : Outcome). Fetches (answerOf p (stateOf (x .table) .claims) (processAt (stateOf (x .table)) p) o)) _ _ _ (λ _. record { part = _; whole = refl }) (λ _. record { part = _; whole = refl }))
+    (λ _. record { part = _; whole = refl })
+
+neither : (s t : Bool) → (s || t) ≡ false → (s ≡ false) × (t ≡ false)
+neither true t e = clash refl e
+neither false t e = (refl, e)
+
+module _ (p driver j offset n : ℕ) (x : Lent) where
+  asked : Step
+  asked = own p (fetch driver j offset n)
+
+  row : ℕ
+  unfolding asked
+  row = firstOf (1 when wrongImage asked x ∷ 2 when not (wellFormed (x .table)) ∷ [])
+
+  accepted-part : (y : Part) → tableStep (own p (fetch driver j offset n)) x .answer ≡ fetched 0 y → (length (y .bytes) ≡ n) × (n ≤ imageBytes)
+  unfolding tableStep wrongImage asked row
+  accepted-part y e = either (λ (o : Out Lent). o .answer ≡ fetched 0 y → (length (y .bytes) ≡ n) × (n ≤ imageBytes)) (eqb row 0) (outOf (step asked (worldOf x))) (record { answer = fetched row emptyPart; after = x }) hands
+      (λ t e. absurd (eqb-false row 0 t (ap numberOf e))) e
+    where
+      hands : eqb row 0 ≡ true → step asked (worldOf x) .answer ≡ fetched 0 y → (length (y .bytes) ≡ n) × (n ≤ imageBytes)
+      hands t e =
+          let (images, rest) = passed 0 (notImage (x .memory) || notImage (x .flash)) (2 when not (wellFormed (x .table)) ∷ []) (eqb-true row 0 t) in
+          let (memory-so, flash-so) = neither (notImage (x .memory)) (notImage (x .flash)) images in
+          let well = well-formed-good (x .table) (not-false _ (passed 1 (not (wellFormed (x .table))) [] rest .0)) in
+          let h = fetch-hands p driver j offset n (worldOf x) y (good-of (stateOf (x .table)) well) (eqb-true _ _ (not-false _ memory-so)) (eqb-true _ _ (not-false _ flash-so)) e in
+          (h .size, omega (arith, h .inside))
+
+-- an accepted fetch of n bytes hands back n bytes, which an image has
+pub accepted-size : (p driver j offset n : ℕ) (x : Lent) → numberOf (tableStep (own p (fetch driver j offset n)) x .answer) ≡ 0
+    → (length (fetches p driver j offset n x .part .bytes) ≡ n) × (n ≤ imageBytes)
+accepted-size p driver j offset n x e = let t = fetches p driver j offset n x in accepted-part p driver j offset n x (t .part) (t .whole ∙ ap (λ k. fetched k (t .part)) e)

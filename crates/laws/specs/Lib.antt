@@ -27,3 +27,4 @@ pub mod Fetched
 pub mod Formed
 -- ---- of the run over a trace
 pub mod Replays
+pub mod Pauses

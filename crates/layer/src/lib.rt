@@ -1,12 +1,13 @@
 // The layer: its public functions take any table and any images, and answer as document 01 says. What works on a checked table is private.
 ghost use mathlib.Core.Path.{_≡_};
+ghost use Rattle.definition.specs.Answer.{numberOf};
 ghost use Rattle.definition.specs.Decide.{call, event, resume, deposit, fetch};
 ghost use Rattle.definition.specs.World.{own, latch};
 ghost use Rattle.definition.specs.Table.{tableStep};
 ghost use Rattle.definition.specs.Signed.{wordOf};
 ghost use Rattle.types.specs.Meaning.{answerOf};
 ghost use Rattle.layer.specs.Steps.{lent, Makes, MakesAlone, Starts};
-ghost use Rattle.layer.specs.Fetching.{numberOf, partOf, IsPart, Lies, Finds};
+ghost use Rattle.layer.specs.Fetching.{partOf, IsPart, Lies, Finds};
 ghost use Rattle.layer.specs.Replaying.{Plays};
 
 mod fetches;

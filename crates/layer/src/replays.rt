@@ -3,16 +3,16 @@
 ghost use mathlib.Core.Path.{_≡_};
 ghost use Prim.Native.Nat.{_+_, _-_, _≤_, _<_};
 ghost use lib.ListN.{length, take, drop};
+ghost use Rattle.definition.specs.Lines.{shortLine};
 ghost use Rattle.definition.specs.Decide.{call, fetch};
 ghost use Rattle.definition.specs.World.{own};
 ghost use Rattle.definition.specs.Image.{wellFormed};
 ghost use Rattle.definition.specs.Trace.{found, maxClass, lastKind};
-ghost use Rattle.definition.specs.Replay.{following, playFrom, playBoard};
+ghost use Rattle.definition.specs.Answer.{numberOf};
+ghost use Rattle.definition.specs.Replay.{left, following, playFrom, playBoard};
 ghost use Rattle.types.specs.Meaning.{answerOf};
-ghost use Rattle.lines.specs.Puts.{shortLine};
 ghost use Rattle.layer.specs.Steps.{lent, Makes};
-ghost use Rattle.layer.specs.Fetching.{numberOf};
-ghost use Rattle.layer.specs.Replaying.{Plays, Goes, Moves, Turned, Acted, FetchTold, ReadIn, stepBy};
+ghost use Rattle.layer.specs.Replaying.{Leaves, Plays, roomAt, Turned, Acted, FetchTold, ReadIn, stepBy};
 use super::Progress;
 use super::fetches;
 use super::steps;
@@ -207,7 +207,7 @@ pub(crate) fn records(
     from: usize,
 ) -> Progress
     requires { ⌜ (formed ≡ wellFormed (now table)) × (from ≤ length (now out)) ⌝ }
-    ensures { λ r. ⌜ Goes (now (trace .entry)) (following (take from (now (out .entry))) (playFrom (now (trace .entry)) (lent (now (table .entry)) (now (memory .entry)) (now (flash .entry))) at)) at from (now (out .entry)) r (lent (now (table .exit)) (now (memory .exit)) (now (flash .entry))) (now (out .exit)) × Moves at from (now (out .entry)) r ⌝ }
+    ensures { λ r. ⌜ Leaves (following (take from (now (out .entry))) (playFrom (now (trace .entry)) (lent (now (table .entry)) (now (memory .entry)) (now (flash .entry))) at (roomAt from (now (out .entry))))) (now (out .entry)) r (lent (now (table .exit)) (now (memory .exit)) (now (flash .entry))) (now (out .exit)) ⌝ }
 {
     let mut i = at;
     let mut used = from;
@@ -254,7 +254,7 @@ fn start_on(
     out: &mut [u8],
 ) -> Progress
     requires { ⌜ shortLine ≤ length (now out) ⌝ }
-    ensures { λ r. ⌜ Goes (now (trace .entry)) (playBoard (now (trace .entry)) (lent (now (table .entry)) (now (memory .entry)) (now (flash .entry))) (found (now (board .entry)) next)) next 0 (now (out .entry)) r (lent (now (table .exit)) (now (memory .exit)) (now (flash .entry))) (now (out .exit)) ⌝ }
+    ensures { λ r. ⌜ Leaves (playBoard (now (trace .entry)) (lent (now (table .entry)) (now (memory .entry)) (now (flash .entry))) (left (length (now (out .entry)))) (found (now (board .entry)) next)) (now (out .entry)) r (lent (now (table .exit)) (now (memory .exit)) (now (flash .entry))) (now (out .exit)) ⌝ }
 {
     let answer = super::start(table, board);
     let used = lines::put_answer(out, 0, answer);

@@ -7,14 +7,14 @@ use lib.ListN.{length}
 use denote.Ref.{RefT}
 use Rattle.definition.specs.Tests.{if_then_else_}
 use Rattle.definition.specs.Board.{Board}
-use Rattle.definition.specs.Answer.{Part, Answer, started, fetched}
+use Rattle.definition.specs.Answer.{Part, Answer, started, fetched, numberOf}
 use Rattle.definition.specs.Decide.{call, event, resume, deposit, fetch}
 use Rattle.definition.specs.World.{Step, own, latch}
 use Rattle.definition.specs.Runs.{isOwn, ownSteps, allAnswers, sendsNone}
 use Rattle.definition.specs.Image.{boardOf}
 use Rattle.definition.specs.Table.{Lent, tableStep}
 use Rattle.layer.specs.Steps.{lent, Makes, MakesAlone, Starts}
-use Rattle.layer.specs.Fetching.{numberOf, partOf, IsPart}
+use Rattle.layer.specs.Fetching.{partOf, IsPart}
 use Rattle.promises.specs.Promises.{after, recordOf, ramIn}
 
 -- a call of a public function: the step that its contract names, what was lent, the answer, and what was lent afterwards. Each case has

@@ -11,7 +11,7 @@ use Rattle.definition.specs.Image.{boardOf}
 use Rattle.definition.specs.Table.{Lent, tableStep, start}
 use Rattle.laws.specs.Unchanged.{unchanged}
 use Rattle.layer.specs.Steps.{lent, gave}
-use Rattle.layer.specs.StatementLaws.{fetches}
+use Rattle.layer.specs.StatementLaws.{fetch-whole}
 use Rattle.promises.specs.Promises.{after, recordOf, ramIn, Isolated}
 use Rattle.promises.specs.Demand3.{isolation}
 use Rattle.promises.specs.Calls.{Called, called, evented, resumed, deposited, handed, latched, Ran, ended, next, answersFor, LayerIsolation}
@@ -26,7 +26,7 @@ call-is (deposited p driver j offset bytes t m f r m′ c) = c f
 call-is (handed p driver j offset n t m f r number part en ep is) =
     let s = own p (fetch driver j offset n) in
     let x : Lent = lent t (m .now) (f .now) in
-    let e : tableStep s x .answer ≡ fetched number part = fetches p driver j offset n x .whole ∙ ap₂ fetched (sym en) (sym ep) in
+    let e : tableStep s x .answer ≡ fetched number part = fetch-whole p driver j offset n x ∙ ap₂ fetched (sym en) (sym ep) in
     λ i. gave (e i) (unchanged .tables s x (ap changesNothing e) i)
 call-is (latched driver peak t m f r t′ c) = c m f
 

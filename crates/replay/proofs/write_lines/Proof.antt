@@ -12,13 +12,13 @@ array-share-prefix-lines : tie.Need-array-share-prefix-lines
 array-share-prefix-lines c =
     let w = c .before in
     let k = w .before .before .before .before .before .before .before in
-    subst (λ n. w .written .given .0 .0 ≤ n) (sym (k .replay .kept .1 .1 .1 .1 .1 .0)) (ended-within _ _ _ _ _ _ _ (k .replay .ensures) (w .written .given .1))
+    subst (λ n. w .written .given .0 .0 ≤ n) (sym (k .replay .kept .1 .1 .1 .1 .1 .0)) (ended-within _ _ _ _ _ _ _ (k .replay .ensures) (w .written .given .1) (k .replay .kept .1 .1 .1 .1 .1 .0))
 
 array-share-prefix-lines-2 : tie.Need-array-share-prefix-lines-2
 array-share-prefix-lines-2 c =
     let w = c .before in
     let k = w .before .before .before .before .before .before .before in
-    subst (λ n. w .next .given .0 .1 .0 ≤ n) (sym (k .replay .kept .1 .1 .1 .1 .1 .0)) (paused-within _ _ _ _ _ _ _ (k .replay .ensures) (w .next .given .1))
+    subst (λ n. w .next .given .0 .1 .0 ≤ n) (sym (k .replay .kept .1 .1 .1 .1 .1 .0)) (paused-within _ _ _ _ _ _ _ (k .replay .ensures) (w .next .given .1) (k .replay .kept .1 .1 .1 .1 .1 .0))
 
 returns-2 : tie.Need-returns-2
 returns-2 c =
