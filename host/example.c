@@ -5,8 +5,15 @@
 
 #include "makvluria.h"
 
-#define RECEIVER 0x1u      /* a driver with two subscribe slots, a read-write and a read-only one */
-#define CORRELATOR 0x90000u /* a shared driver */
+/* The drivers' numbers, as they stand in the board and in registers. Neither is also a process's index, so that what is printed would show
+ * one passed for the other. */
+#define RECEIVER 0x90001u   /* with two subscribe slots, a read-write and a read-only one */
+#define CORRELATOR 0x90000u /* shared */
+
+static const mk_driver_t receiver = {RECEIVER};
+static const mk_driver_t correlator = {CORRELATOR};
+static const mk_process_t process_0 = {0};
+static const mk_process_t process_1 = {1};
 
 static const uint32_t board[] = {
   2,
@@ -62,24 +69,25 @@ static void print_answer(const char *what, bool done) {
   }
 }
 
-static void call(const char *what, uint32_t process, uint8_t class_number, uint32_t r0, uint32_t r1, uint32_t r2, uint32_t r3) {
-  print_answer(what, mk_call(table, MK_TABLE_WORDS, memory, MK_IMAGE_BYTES, process, class_number, r0, r1, r2, r3, out, MK_ANSWER_WORDS));
+static void call(const char *what, mk_process_t process, uint8_t class_number, uint32_t r0, uint32_t r1, uint32_t r2, uint32_t r3) {
+  print_answer(what, mk_process_call(table, MK_TABLE_WORDS, memory, MK_IMAGE_BYTES, process, class_number, r0, r1, r2, r3, out,
+                                     MK_ANSWER_WORDS));
 }
 
-static void deposit(const char *what, uint32_t process, uint32_t offset) {
+static void deposit(const char *what, mk_process_t process, uint32_t offset) {
   static const uint8_t fix[] = {'G', 'P', 'S', '!'};
-  print_answer(what, mk_deposit(table, MK_TABLE_WORDS, memory, MK_IMAGE_BYTES, process, RECEIVER, 0, offset, fix, sizeof fix, out,
-                                MK_ANSWER_WORDS));
+  print_answer(what, mk_driver_deposit(table, MK_TABLE_WORDS, memory, MK_IMAGE_BYTES, process, receiver, 0, offset, fix, sizeof fix, out,
+                                       MK_ANSWER_WORDS));
 }
 
 static void incident(void) {
-  call("process 0 lends 2 bytes at 0xFFFFFFFF", 0, MK_CLASS_READWRITE_ALLOW, RECEIVER, 0, 0xFFFFFFFF, 2);
+  call("process 0 lends 2 bytes at 0xFFFFFFFF", process_0, MK_CLASS_READWRITE_ALLOW, RECEIVER, 0, 0xFFFFFFFF, 2);
   if (out[1] == TOCK_SYSCALL_FAILURE_U32_U32 && out[2] == TOCK_STATUSCODE_INVAL) printf("that is Failure with 2 u32, INVAL\n");
-  deposit("a driver fills it", 0, 0);
+  deposit("a driver fills it", process_0, 0);
 
-  call("process 1 lends 16 bytes at 0x20002100", 1, MK_CLASS_READWRITE_ALLOW, RECEIVER, 0, 0x20002100, 16);
-  deposit("a driver fills its last four", 1, 12);
-  deposit("and one past its end", 1, 13);
+  call("process 1 lends 16 bytes at 0x20002100", process_1, MK_CLASS_READWRITE_ALLOW, RECEIVER, 0, 0x20002100, 16);
+  deposit("a driver fills its last four", process_1, 12);
+  deposit("and one past its end", process_1, 13);
 
   size_t written = 0;
   for (size_t i = 0; i < MK_IMAGE_BYTES; i++) written += memory[i] != 0;
@@ -87,20 +95,20 @@ static void incident(void) {
 }
 
 static void each_other_step(void) {
-  call("process 1 subscribes", 1, MK_CLASS_SUBSCRIBE, RECEIVER, 0, 0x00044010, 7);
-  call("process 1 yields", 1, MK_CLASS_YIELD, 1, 0, 0, 0);
-  print_answer("an event", mk_event(table, MK_TABLE_WORDS, 1, RECEIVER, 0, 4, 5, 6, out, MK_ANSWER_WORDS));
-  print_answer("resume", mk_resume(table, MK_TABLE_WORDS, 1, out, MK_ANSWER_WORDS));
+  call("process 1 subscribes", process_1, MK_CLASS_SUBSCRIBE, RECEIVER, 0, 0x00044010, 7);
+  call("process 1 yields", process_1, MK_CLASS_YIELD, 1, 0, 0, 0);
+  print_answer("an event", mk_driver_event(table, MK_TABLE_WORDS, process_1, receiver, 0, 4, 5, 6, out, MK_ANSWER_WORDS));
+  print_answer("resume", mk_process_resume(table, MK_TABLE_WORDS, process_1, out, MK_ANSWER_WORDS));
 
-  call("process 1 lends 4 bytes at 0x00044100 to be read", 1, MK_CLASS_READONLY_ALLOW, RECEIVER, 0, 0x00044100, 4);
+  call("process 1 lends 4 bytes at 0x00044100 to be read", process_1, MK_CLASS_READONLY_ALLOW, RECEIVER, 0, 0x00044100, 4);
   flash[0x4101] = 'm', flash[0x4102] = 'a', flash[0x4103] = 'p';
-  print_answer("a driver reads the last three", mk_fetch(table, MK_TABLE_WORDS, memory, MK_IMAGE_BYTES, flash, MK_IMAGE_BYTES, 1,
-                                                         RECEIVER, 0, 1, 3, out, MK_ANSWER_WORDS));
+  print_answer("a driver reads the last three", mk_driver_fetch(table, MK_TABLE_WORDS, memory, MK_IMAGE_BYTES, flash, MK_IMAGE_BYTES,
+                                                                process_1, receiver, 0, 1, 3, out, MK_ANSWER_WORDS));
   printf("bytes there: %.*s\n", (int)out[4], (const char *)flash + out[3]);
 
-  print_answer("a peak of -5", mk_latch(table, MK_TABLE_WORDS, CORRELATOR, -5, out, MK_ANSWER_WORDS));
-  call("process 1 claims", 1, MK_CLASS_COMMAND, CORRELATOR, 1, 0, 0);
-  call("process 1 reads", 1, MK_CLASS_COMMAND, CORRELATOR, 3, 0, 0);
+  print_answer("a peak of -5", mk_driver_latch(table, MK_TABLE_WORDS, correlator, -5, out, MK_ANSWER_WORDS));
+  call("process 1 claims", process_1, MK_CLASS_COMMAND, CORRELATOR, 1, 0, 0);
+  call("process 1 reads", process_1, MK_CLASS_COMMAND, CORRELATOR, 3, 0, 0);
 }
 
 /* Prints the lines of a trace as they come. The room is small, so that a run of a few lines pauses; one that fetches many bytes needs

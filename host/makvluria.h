@@ -1,4 +1,4 @@
-/* The layer, for C: its steps on numbers and slices, and its run over a trace, in the static library that `rt staticlib host` writes
+/* The layer, for C and C++: its steps and its run over a trace, in the static library that `rt staticlib host` writes
  * (target/staticlib/libhost.a, x86-64). Each is proved for any numbers and any contents and lengths; crates/host/src/lib.rt has the
  * contracts.
  *
@@ -118,28 +118,68 @@ bool mk_table_well_formed(const uint32_t *table, size_t table_words);
 /* Makes the table that of the fresh state of a board. */
 bool mk_start(uint32_t *table, size_t table_words, const uint32_t *board, size_t board_words, uint32_t *out, size_t out_words);
 
-/* A call of a process: its class, and its four registers. */
+/* A process's index, and a driver's number: two types, so that neither can be passed for the other. */
+typedef struct {
+  uint32_t index;
+} mk_process_t;
+
+typedef struct {
+  uint32_t number;
+} mk_driver_t;
+
+/* The exports of the steps that name a process or a driver, which are plain numbers in them. A host calls the functions below, which take
+ * the two types and pass the numbers on. */
 bool mk_call(uint32_t *table, size_t table_words, uint8_t *memory, size_t memory_bytes, uint32_t process, uint8_t class_number,
              uint32_t r0, uint32_t r1, uint32_t r2, uint32_t r3, uint32_t *out, size_t out_words);
-
-/* A driver's event for a process's subscribe slot, with three arguments. */
 bool mk_event(uint32_t *table, size_t table_words, uint32_t process, uint32_t driver, uint32_t slot, uint32_t argument0,
               uint32_t argument1, uint32_t argument2, uint32_t *out, size_t out_words);
-
-/* A process that waits is asked again. */
 bool mk_resume(uint32_t *table, size_t table_words, uint32_t process, uint32_t *out, size_t out_words);
-
-/* A driver's bytes for a process's read-write buffer, from an offset in it on. */
 bool mk_deposit(const uint32_t *table, size_t table_words, uint8_t *memory, size_t memory_bytes, uint32_t process, uint32_t driver,
                 uint32_t slot, uint32_t offset, const uint8_t *bytes, size_t bytes_length, uint32_t *out, size_t out_words);
-
-/* Where bytes of a process's read-only buffer lie, from an offset in it on: the caller reads them there. */
 bool mk_fetch(const uint32_t *table, size_t table_words, const uint8_t *memory, size_t memory_bytes, const uint8_t *flash,
               size_t flash_bytes, uint32_t process, uint32_t driver, uint32_t slot, uint32_t offset, uint32_t length, uint32_t *out,
               size_t out_words);
+bool mk_latch(uint32_t *table, size_t table_words, uint32_t driver, int32_t peak, uint32_t *out, size_t out_words);
+
+/* A call of a process: its class, and its four registers. */
+static inline bool mk_process_call(uint32_t *table, size_t table_words, uint8_t *memory, size_t memory_bytes, mk_process_t process,
+                                   uint8_t class_number, uint32_t r0, uint32_t r1, uint32_t r2, uint32_t r3, uint32_t *out,
+                                   size_t out_words) {
+  return mk_call(table, table_words, memory, memory_bytes, process.index, class_number, r0, r1, r2, r3, out, out_words);
+}
+
+/* A driver's event for a process's subscribe slot, with three arguments. */
+static inline bool mk_driver_event(uint32_t *table, size_t table_words, mk_process_t process, mk_driver_t driver, uint32_t slot,
+                                   uint32_t argument0, uint32_t argument1, uint32_t argument2, uint32_t *out, size_t out_words) {
+  return mk_event(table, table_words, process.index, driver.number, slot, argument0, argument1, argument2, out, out_words);
+}
+
+/* A process that waits is asked again. */
+static inline bool mk_process_resume(uint32_t *table, size_t table_words, mk_process_t process, uint32_t *out, size_t out_words) {
+  return mk_resume(table, table_words, process.index, out, out_words);
+}
+
+/* A driver's bytes for a process's read-write buffer, from an offset in it on. */
+static inline bool mk_driver_deposit(const uint32_t *table, size_t table_words, uint8_t *memory, size_t memory_bytes,
+                                     mk_process_t process, mk_driver_t driver, uint32_t slot, uint32_t offset, const uint8_t *bytes,
+                                     size_t bytes_length, uint32_t *out, size_t out_words) {
+  return mk_deposit(table, table_words, memory, memory_bytes, process.index, driver.number, slot, offset, bytes, bytes_length, out,
+                    out_words);
+}
+
+/* Where bytes of a process's read-only buffer lie, from an offset in it on: the driver reads them there. */
+static inline bool mk_driver_fetch(const uint32_t *table, size_t table_words, const uint8_t *memory, size_t memory_bytes,
+                                   const uint8_t *flash, size_t flash_bytes, mk_process_t process, mk_driver_t driver, uint32_t slot,
+                                   uint32_t offset, uint32_t length, uint32_t *out, size_t out_words) {
+  return mk_fetch(table, table_words, memory, memory_bytes, flash, flash_bytes, process.index, driver.number, slot, offset, length, out,
+                  out_words);
+}
 
 /* A shared driver's value: a signed peak. */
-bool mk_latch(uint32_t *table, size_t table_words, uint32_t driver, int32_t peak, uint32_t *out, size_t out_words);
+static inline bool mk_driver_latch(uint32_t *table, size_t table_words, mk_driver_t driver, int32_t peak, uint32_t *out,
+                                   size_t out_words) {
+  return mk_latch(table, table_words, driver.number, peak, out, out_words);
+}
 
 /* Whether a run has ended, out[0]. After it: the place in the trace to go on from, 0 where it has, and the bytes written to lines. */
 enum mk_run { MK_ENDED = 0, MK_PAUSED = 1 };

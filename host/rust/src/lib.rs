@@ -28,6 +28,32 @@ pub const RUN_WORDS: usize = 3;
 /// Room for the longest line of a run, that of a fetch of a whole image.
 pub const LINES_BYTES: usize = 23 + 4 * IMAGE_BYTES;
 
+/// A process's index. It and a driver's number are different types, so that neither can be passed for the other.
+///
+/// ```
+/// use makvluria::{event, Answer, Driver, Process};
+///
+/// assert_eq!(event(&mut [], Process(0), Driver(1), 0, [2, 3, 4]), Answer::Refused(2));
+/// ```
+///
+/// ```compile_fail,E0308
+/// use makvluria::{event, Answer, Driver, Process};
+///
+/// assert_eq!(event(&mut [], Driver(1), Driver(1), 0, [2, 3, 4]), Answer::Refused(2));
+/// ```
+#[derive(Clone, Copy, Debug, PartialEq, Eq, Hash, PartialOrd, Ord)]
+pub struct Process(pub u32);
+
+/// A driver's number. A process's index cannot be passed for it:
+///
+/// ```compile_fail,E0308
+/// use makvluria::{event, Answer, Driver, Process};
+///
+/// assert_eq!(event(&mut [], Process(0), Process(0), 0, [2, 3, 4]), Answer::Refused(2));
+/// ```
+#[derive(Clone, Copy, Debug, PartialEq, Eq, Hash, PartialOrd, Ord)]
+pub struct Driver(pub u32);
+
 /// The image that a fetched part lies in.
 #[derive(Clone, Copy, Debug, PartialEq, Eq)]
 pub enum Image {
@@ -162,7 +188,7 @@ pub fn start(table: &mut [u32], board: &[u32]) -> Answer {
 pub fn call(
     table: &mut [u32],
     memory: &mut [u8],
-    process: u32,
+    process: Process,
     class: u8,
     registers: [u32; 4],
 ) -> Answer {
@@ -172,8 +198,8 @@ pub fn call(
 /// A driver's event for a process's subscribe slot, with three arguments.
 pub fn event(
     table: &mut [u32],
-    process: u32,
-    driver: u32,
+    process: Process,
+    driver: Driver,
     slot: u32,
     arguments: [u32; 3],
 ) -> Answer {
@@ -181,7 +207,7 @@ pub fn event(
 }
 
 /// A process that waits is asked again.
-pub fn resume(table: &mut [u32], process: u32) -> Answer {
+pub fn resume(table: &mut [u32], process: Process) -> Answer {
     answer(|out| raw::resume(table, process, out))
 }
 
@@ -189,8 +215,8 @@ pub fn resume(table: &mut [u32], process: u32) -> Answer {
 pub fn deposit(
     table: &[u32],
     memory: &mut [u8],
-    process: u32,
-    driver: u32,
+    process: Process,
+    driver: Driver,
     slot: u32,
     offset: u32,
     bytes: &[u8],
@@ -204,8 +230,8 @@ pub fn fetch(
     table: &[u32],
     memory: &[u8],
     flash: &[u8],
-    process: u32,
-    driver: u32,
+    process: Process,
+    driver: Driver,
     slot: u32,
     offset: u32,
     length: u32,
@@ -214,7 +240,7 @@ pub fn fetch(
 }
 
 /// A shared driver's value: a signed peak.
-pub fn latch(table: &mut [u32], driver: u32, peak: i32) -> Answer {
+pub fn latch(table: &mut [u32], driver: Driver, peak: i32) -> Answer {
     answer(|out| raw::latch(table, driver, peak, out))
 }
 

@@ -1,12 +1,14 @@
-//! The exports as they are: a step writes its answer into the first six words of `out`, a run how far it came into the first three, and
-//! it gives true; where `out` is shorter it does nothing and gives false.
+//! The exports as they are, but for the types of a process and a driver: a step writes its answer into the first six words of `out`, a run
+//! how far it came into the first three, and it gives true; where `out` is shorter it does nothing and gives false.
 //!
 //! Every call here is safe: the library is proved for any numbers and slices, Rust's slices are valid, and those that are lent to be
 //! written are borrowed apart from all others.
 #![allow(clippy::too_many_arguments)] // the exports have these
 
+use crate::{Driver, Process};
+
 mod exports {
-    // A slice is a pointer and its number of elements.
+    // A slice is a pointer and its number of elements; a process and a driver are plain numbers.
     extern "C" {
         pub fn mk_table_well_formed(table: *const u32, words: usize) -> bool;
         pub fn mk_start(
@@ -125,7 +127,7 @@ pub fn start(table: &mut [u32], board: &[u32], out: &mut [u32]) -> bool {
 pub fn call(
     table: &mut [u32],
     memory: &mut [u8],
-    process: u32,
+    process: Process,
     class: u8,
     [r0, r1, r2, r3]: [u32; 4],
     out: &mut [u32],
@@ -136,7 +138,7 @@ pub fn call(
             table.len(),
             memory.as_mut_ptr(),
             memory.len(),
-            process,
+            process.0,
             class,
             r0,
             r1,
@@ -150,8 +152,8 @@ pub fn call(
 
 pub fn event(
     table: &mut [u32],
-    process: u32,
-    driver: u32,
+    process: Process,
+    driver: Driver,
     slot: u32,
     [argument0, argument1, argument2]: [u32; 3],
     out: &mut [u32],
@@ -160,8 +162,8 @@ pub fn event(
         exports::mk_event(
             table.as_mut_ptr(),
             table.len(),
-            process,
-            driver,
+            process.0,
+            driver.0,
             slot,
             argument0,
             argument1,
@@ -172,17 +174,17 @@ pub fn event(
     }
 }
 
-pub fn resume(table: &mut [u32], process: u32, out: &mut [u32]) -> bool {
+pub fn resume(table: &mut [u32], process: Process, out: &mut [u32]) -> bool {
     unsafe {
-        exports::mk_resume(table.as_mut_ptr(), table.len(), process, out.as_mut_ptr(), out.len())
+        exports::mk_resume(table.as_mut_ptr(), table.len(), process.0, out.as_mut_ptr(), out.len())
     }
 }
 
 pub fn deposit(
     table: &[u32],
     memory: &mut [u8],
-    process: u32,
-    driver: u32,
+    process: Process,
+    driver: Driver,
     slot: u32,
     offset: u32,
     bytes: &[u8],
@@ -194,8 +196,8 @@ pub fn deposit(
             table.len(),
             memory.as_mut_ptr(),
             memory.len(),
-            process,
-            driver,
+            process.0,
+            driver.0,
             slot,
             offset,
             bytes.as_ptr(),
@@ -210,8 +212,8 @@ pub fn fetch(
     table: &[u32],
     memory: &[u8],
     flash: &[u8],
-    process: u32,
-    driver: u32,
+    process: Process,
+    driver: Driver,
     slot: u32,
     offset: u32,
     length: u32,
@@ -225,8 +227,8 @@ pub fn fetch(
             memory.len(),
             flash.as_ptr(),
             flash.len(),
-            process,
-            driver,
+            process.0,
+            driver.0,
             slot,
             offset,
             length,
@@ -236,12 +238,12 @@ pub fn fetch(
     }
 }
 
-pub fn latch(table: &mut [u32], driver: u32, peak: i32, out: &mut [u32]) -> bool {
+pub fn latch(table: &mut [u32], driver: Driver, peak: i32, out: &mut [u32]) -> bool {
     unsafe {
         exports::mk_latch(
             table.as_mut_ptr(),
             table.len(),
-            driver,
+            driver.0,
             peak,
             out.as_mut_ptr(),
             out.len(),

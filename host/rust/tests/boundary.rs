@@ -4,7 +4,7 @@ mod run;
 
 use makvluria::{
     call, deposit, event, fetch, is_well_formed, latch, raw, replay, replay_all, resume, start,
-    Answer, Image, Progress, IMAGE_BYTES, TABLE_WORDS,
+    Answer, Driver, Image, Process, Progress, IMAGE_BYTES, TABLE_WORDS,
 };
 
 /// The board of document 01's cases: two processes, an unshared driver 1 and a shared driver 0x90000.
@@ -17,8 +17,10 @@ const BOARD: [u32; 26] = [
     1, 2, 1, 1, 0,
     0x9_0000, 1, 1, 0, 1,
 ];
-const UNSHARED: u32 = 1;
-const SHARED: u32 = 0x9_0000;
+const FIRST: Process = Process(0);
+const SECOND: Process = Process(1);
+const UNSHARED: Driver = Driver(1);
+const SHARED: Driver = Driver(0x9_0000);
 
 const YIELD: u8 = 0;
 const SUBSCRIBE: u8 = 1;
@@ -50,14 +52,14 @@ impl Host {
     /// One with a pending upcall, a read-write and a read-only buffer of process 0, so that every step has work to do.
     fn busy() -> Host {
         let mut host = Host::fresh();
-        host.registers(SUBSCRIBE, [UNSHARED, 0, 0x0004_0010, 7], [130, 0, 0, 0]);
-        assert_eq!(event(&mut host.table, 0, UNSHARED, 0, [1, 2, 3]), Answer::Taken);
-        host.registers(READ_WRITE, [UNSHARED, 0, 0x2000_0100, 16], [130, 0, 0, 0]);
-        host.registers(READ_ONLY, [UNSHARED, 0, 0x0004_3FF0, 16], [130, 0, 0, 0]);
+        host.registers(SUBSCRIBE, [UNSHARED.0, 0, 0x0004_0010, 7], [130, 0, 0, 0]);
+        assert_eq!(event(&mut host.table, FIRST, UNSHARED, 0, [1, 2, 3]), Answer::Taken);
+        host.registers(READ_WRITE, [UNSHARED.0, 0, 0x2000_0100, 16], [130, 0, 0, 0]);
+        host.registers(READ_ONLY, [UNSHARED.0, 0, 0x0004_3FF0, 16], [130, 0, 0, 0]);
         host
     }
 
-    fn call(&mut self, process: u32, class: u8, registers: [u32; 4]) -> Answer {
+    fn call(&mut self, process: Process, class: u8, registers: [u32; 4]) -> Answer {
         call(&mut self.table, &mut self.memory, process, class, registers)
     }
 
@@ -73,11 +75,11 @@ impl Host {
     }
 
     fn registers(&mut self, class: u8, registers: [u32; 4], answer: [u32; 4]) {
-        assert_eq!(self.call(0, class, registers), Answer::Registers(answer));
+        assert_eq!(self.call(FIRST, class, registers), Answer::Registers(answer));
     }
 
     /// Every step on what is here, with what it answers; the steps that take no image are apart.
-    fn all_steps(&mut self, process: u32) -> ([Answer; 3], [Answer; 2]) {
+    fn all_steps(&mut self, process: Process) -> ([Answer; 3], [Answer; 2]) {
         let with_images = [
             self.call(process, MEMOP, [2, 0, 0, 0]),
             deposit(&self.table, &mut self.memory, process, UNSHARED, 0, 0, &[9]),
@@ -105,11 +107,11 @@ fn a_short_answer_slice_stops_every_step() {
         let mut words = [77; 6];
         let out = &mut words[..room];
         assert!(!raw::start(&mut table, &BOARD, out));
-        assert!(!raw::call(&mut table, &mut memory, 0, YIELD, [1, 0, 0, 0], out));
-        assert!(!raw::event(&mut table, 0, UNSHARED, 0, [1, 2, 3], out));
-        assert!(!raw::resume(&mut table, 0, out));
-        assert!(!raw::deposit(&table, &mut memory, 0, UNSHARED, 0, 0, b"bytes", out));
-        assert!(!raw::fetch(&table, &memory, &flash, 0, UNSHARED, 0, 0, 1, out));
+        assert!(!raw::call(&mut table, &mut memory, FIRST, YIELD, [1, 0, 0, 0], out));
+        assert!(!raw::event(&mut table, FIRST, UNSHARED, 0, [1, 2, 3], out));
+        assert!(!raw::resume(&mut table, FIRST, out));
+        assert!(!raw::deposit(&table, &mut memory, FIRST, UNSHARED, 0, 0, b"bytes", out));
+        assert!(!raw::fetch(&table, &memory, &flash, FIRST, UNSHARED, 0, 0, 1, out));
         assert!(!raw::latch(&mut table, SHARED, -1, out));
         assert!(before == Host { table, memory, flash });
         assert_eq!(words, [77; 6]);
@@ -131,16 +133,22 @@ fn images_of_another_length_are_refused_with_1() {
         host.memory = vec![5; length];
         let before = host.clone();
         let table = vec![0; 3]; // row 1 stands before row 2
-        assert_eq!(host.call(0, YIELD, [0; 4]), Answer::Refused(1));
-        assert_eq!(call(&mut table.clone(), &mut host.memory, 9, 9, [0; 4]), Answer::Refused(1));
+        assert_eq!(host.call(FIRST, YIELD, [0; 4]), Answer::Refused(1));
         assert_eq!(
-            deposit(&host.table, &mut host.memory, 0, UNSHARED, 0, 0, b"x"),
+            call(&mut table.clone(), &mut host.memory, Process(9), 9, [0; 4]),
             Answer::Refused(1)
         );
-        assert_eq!(deposit(&table, &mut host.memory, 0, UNSHARED, 0, 0, b"x"), Answer::Refused(1));
+        assert_eq!(
+            deposit(&host.table, &mut host.memory, FIRST, UNSHARED, 0, 0, b"x"),
+            Answer::Refused(1)
+        );
+        assert_eq!(
+            deposit(&table, &mut host.memory, FIRST, UNSHARED, 0, 0, b"x"),
+            Answer::Refused(1)
+        );
         let whole = vec![0; IMAGE_BYTES];
-        assert_eq!(fetch(&host.table, &host.memory, &whole, 0, UNSHARED, 0, 0, 1), no_part(1));
-        assert_eq!(fetch(&host.table, &whole, &host.memory, 0, UNSHARED, 0, 0, 1), no_part(1));
+        assert_eq!(fetch(&host.table, &host.memory, &whole, FIRST, UNSHARED, 0, 0, 1), no_part(1));
+        assert_eq!(fetch(&host.table, &whole, &host.memory, FIRST, UNSHARED, 0, 0, 1), no_part(1));
         assert!(before == host);
     }
 }
@@ -154,7 +162,7 @@ fn tables_of_another_length_are_refused_with_2() {
         assert_eq!(start(&mut host.table, &BOARD), Answer::Refused(2));
         assert_eq!(start(&mut host.table, &[]), Answer::Refused(2));
         assert_eq!(
-            host.all_steps(0),
+            host.all_steps(FIRST),
             ([Answer::Refused(2), Answer::Refused(2), no_part(2)], [Answer::Refused(2); 2])
         );
         assert_eq!(latch(&mut host.table, SHARED, 1), Answer::Refused(2));
@@ -176,7 +184,7 @@ fn a_changed_word_is_refused_with_2_or_makes_another_table() {
             refused += 1;
             let before = host.clone();
             assert_eq!(
-                host.all_steps(0),
+                host.all_steps(FIRST),
                 ([Answer::Refused(2), Answer::Refused(2), no_part(2)], [Answer::Refused(2); 2]),
                 "word {at}"
             );
@@ -191,7 +199,7 @@ fn a_changed_word_is_refused_with_2_or_makes_another_table() {
 fn no_such_process_is_refused_with_3() {
     let mut host = Host::busy();
     let before = host.clone();
-    for process in [2, 8, u32::MAX] {
+    for process in [2, 8, u32::MAX].map(Process) {
         assert_eq!(
             host.all_steps(process),
             ([Answer::Refused(3), Answer::Refused(3), no_part(3)], [Answer::Refused(3); 2])
@@ -219,66 +227,78 @@ fn boards_that_are_not_good_are_refused_with_13() {
 #[test]
 fn the_other_refusals_keep_their_numbers() {
     let mut host = Host::busy();
-    assert_eq!(resume(&mut host.table, 0), Answer::Refused(6));
-    assert_eq!(event(&mut host.table, 0, 5, 0, [0; 3]), Answer::Refused(7));
-    assert_eq!(event(&mut host.table, 0, UNSHARED, 2, [0; 3]), Answer::Refused(8));
+    assert_eq!(resume(&mut host.table, FIRST), Answer::Refused(6));
+    assert_eq!(event(&mut host.table, FIRST, Driver(5), 0, [0; 3]), Answer::Refused(7));
+    assert_eq!(event(&mut host.table, FIRST, UNSHARED, 2, [0; 3]), Answer::Refused(8));
     assert_eq!(
-        deposit(&host.table, &mut host.memory, 0, UNSHARED, 0, u32::MAX, b"x"),
+        deposit(&host.table, &mut host.memory, FIRST, UNSHARED, 0, u32::MAX, b"x"),
         Answer::Refused(9)
     );
-    assert_eq!(fetch(&host.table, &host.memory, &host.flash, 0, UNSHARED, 0, 16, 1), no_part(9));
-    assert_eq!(event(&mut host.table, 0, UNSHARED, 1, [0; 3]), Answer::Refused(11));
+    assert_eq!(
+        fetch(&host.table, &host.memory, &host.flash, FIRST, UNSHARED, 0, 16, 1),
+        no_part(9)
+    );
+    assert_eq!(event(&mut host.table, FIRST, UNSHARED, 1, [0; 3]), Answer::Refused(11));
     for _ in 1..16 {
-        assert_eq!(event(&mut host.table, 0, UNSHARED, 0, [0; 3]), Answer::Taken);
+        assert_eq!(event(&mut host.table, FIRST, UNSHARED, 0, [0; 3]), Answer::Taken);
     }
-    assert_eq!(event(&mut host.table, 0, UNSHARED, 0, [0; 3]), Answer::Refused(10));
+    assert_eq!(event(&mut host.table, FIRST, UNSHARED, 0, [0; 3]), Answer::Refused(10));
     assert_eq!(latch(&mut host.table, UNSHARED, 1), Answer::Refused(12));
-    assert_eq!(host.call(1, YIELD, [1, 0, 0, 0]), Answer::Waiting);
-    assert_eq!(host.call(1, YIELD, [1, 0, 0, 0]), Answer::Refused(5));
-    assert_eq!(host.call(0, EXIT, [0, 0, 0, 0]), Answer::Exited(0));
-    assert_eq!(host.call(0, YIELD, [0; 4]), Answer::Refused(4));
+    assert_eq!(host.call(SECOND, YIELD, [1, 0, 0, 0]), Answer::Waiting);
+    assert_eq!(host.call(SECOND, YIELD, [1, 0, 0, 0]), Answer::Refused(5));
+    assert_eq!(host.call(FIRST, EXIT, [0, 0, 0, 0]), Answer::Exited(0));
+    assert_eq!(host.call(FIRST, YIELD, [0; 4]), Answer::Refused(4));
 }
 
 #[test]
 fn upcalls_come_and_are_waited_for() {
     let mut host = Host::busy();
     let first = Answer::Delivered { pointer: 0x0004_0010, registers: [1, 2, 3, 7] };
-    assert_eq!(host.call(0, YIELD, [0, 0x2000_0000, 0, 0]), first);
+    assert_eq!(host.call(FIRST, YIELD, [0, 0x2000_0000, 0, 0]), first);
     assert_eq!(host.memory[0], 1);
-    assert_eq!(host.call(0, YIELD, [0, 0x2000_0000, 0, 0]), Answer::Nothing);
+    assert_eq!(host.call(FIRST, YIELD, [0, 0x2000_0000, 0, 0]), Answer::Nothing);
     assert_eq!(host.memory[0], 0);
-    assert_eq!(host.call(0, YIELD, [1, 0, 0, 0]), Answer::Waiting);
-    assert_eq!(resume(&mut host.table, 0), Answer::Waiting);
-    assert_eq!(event(&mut host.table, 0, UNSHARED, 0, [4, 5, u32::MAX]), Answer::Taken);
+    assert_eq!(host.call(FIRST, YIELD, [1, 0, 0, 0]), Answer::Waiting);
+    assert_eq!(resume(&mut host.table, FIRST), Answer::Waiting);
+    assert_eq!(event(&mut host.table, FIRST, UNSHARED, 0, [4, 5, u32::MAX]), Answer::Taken);
     let second = Answer::Delivered { pointer: 0x0004_0010, registers: [4, 5, u32::MAX, 7] };
-    assert_eq!(resume(&mut host.table, 0), second);
+    assert_eq!(resume(&mut host.table, FIRST), second);
 }
 
 #[test]
 fn a_deposit_lands_in_its_buffer_alone() {
     let mut host = Host::busy();
     assert_eq!(
-        deposit(&host.table, &mut host.memory, 0, UNSHARED, 0, 12, b"GPS!"),
+        deposit(&host.table, &mut host.memory, FIRST, UNSHARED, 0, 12, b"GPS!"),
         Answer::Deposited
     );
     assert_eq!(&host.memory[0x10C..0x110], b"GPS!");
     assert_eq!(host.memory.iter().filter(|&&byte| byte != 0).count(), 4);
-    assert_eq!(deposit(&host.table, &mut host.memory, 0, UNSHARED, 0, 16, b""), Answer::Deposited);
+    assert_eq!(
+        deposit(&host.table, &mut host.memory, FIRST, UNSHARED, 0, 16, b""),
+        Answer::Deposited
+    );
 }
 
 #[test]
 fn a_fetch_says_where_its_part_lies() {
     let mut host = Host::busy();
     host.flash[0x3FF4..0x3FF7].copy_from_slice(b"map");
-    let found = fetch(&host.table, &host.memory, &host.flash, 0, UNSHARED, 0, 4, 3);
+    let found = fetch(&host.table, &host.memory, &host.flash, FIRST, UNSHARED, 0, 4, 3);
     assert_eq!(found, Answer::Fetched { number: 0, image: Image::Flash, place: 0x3FF4, length: 3 });
     assert_eq!(found.part(&host.memory, &host.flash), b"map");
 
-    assert_eq!(fetch(&host.table, &host.memory, &host.flash, 0, UNSHARED, 0, 16, 0), no_part(0));
+    assert_eq!(
+        fetch(&host.table, &host.memory, &host.flash, FIRST, UNSHARED, 0, 16, 0),
+        no_part(0)
+    );
 
-    host.registers(READ_ONLY, [UNSHARED, 0, 0x2000_0100, 16], [130, 0x0004_3FF0, 16, 0]);
-    assert_eq!(deposit(&host.table, &mut host.memory, 0, UNSHARED, 0, 15, b"!"), Answer::Deposited);
-    let found = fetch(&host.table, &host.memory, &host.flash, 0, UNSHARED, 0, 15, 1);
+    host.registers(READ_ONLY, [UNSHARED.0, 0, 0x2000_0100, 16], [130, 0x0004_3FF0, 16, 0]);
+    assert_eq!(
+        deposit(&host.table, &mut host.memory, FIRST, UNSHARED, 0, 15, b"!"),
+        Answer::Deposited
+    );
+    let found = fetch(&host.table, &host.memory, &host.flash, FIRST, UNSHARED, 0, 15, 1);
     assert_eq!(found, Answer::Fetched { number: 0, image: Image::Memory, place: 0x10F, length: 1 });
     assert_eq!(found.part(&host.memory, &host.flash), b"!");
 }
@@ -288,19 +308,19 @@ fn a_peak_below_zero_is_a_value() {
     let mut host = Host::fresh();
     for peak in [-1, i32::MIN, i32::MAX, 0] {
         assert_eq!(latch(&mut host.table, SHARED, peak), Answer::Latched);
-        host.registers(COMMAND, [SHARED, 1, 0, 0], [128, 0, 0, 0]);
-        host.registers(COMMAND, [SHARED, 3, 0, 0], [129, peak as u32, 0, 0]);
+        host.registers(COMMAND, [SHARED.0, 1, 0, 0], [128, 0, 0, 0]);
+        host.registers(COMMAND, [SHARED.0, 3, 0, 0], [129, peak as u32, 0, 0]);
     }
-    assert_eq!(host.call(1, COMMAND, [SHARED, 3, 0, 0]), Answer::Registers([0, 5, 0, 0]));
+    assert_eq!(host.call(SECOND, COMMAND, [SHARED.0, 3, 0, 0]), Answer::Registers([0, 5, 0, 0]));
 }
 
 #[test]
 fn exits_tell_their_codes() {
     let mut host = Host::busy();
-    assert_eq!(host.call(0, EXIT, [1, 0xFFFF_FFFE, 0, 0]), Answer::Restarted(0xFFFF_FFFE));
-    assert_eq!(host.call(0, EXIT, [0, 17, 0, 0]), Answer::Exited(17));
+    assert_eq!(host.call(FIRST, EXIT, [1, 0xFFFF_FFFE, 0, 0]), Answer::Restarted(0xFFFF_FFFE));
+    assert_eq!(host.call(FIRST, EXIT, [0, 17, 0, 0]), Answer::Exited(17));
     let mut fresh = Host::fresh();
-    assert_eq!(fresh.call(0, EXIT, [0, 17, 0, 0]), Answer::Exited(17));
+    assert_eq!(fresh.call(FIRST, EXIT, [0, 17, 0, 0]), Answer::Exited(17));
     assert!(fresh == host);
 }
 
@@ -308,7 +328,7 @@ fn exits_tell_their_codes() {
 fn the_wrapping_buffer_is_refused() {
     let mut host = Host::fresh();
     let before = host.clone();
-    host.registers(READ_WRITE, [UNSHARED, 0, 0xFFFF_FFFF, 2], [2, 6, 0xFFFF_FFFF, 2]);
+    host.registers(READ_WRITE, [UNSHARED.0, 0, 0xFFFF_FFFF, 2], [2, 6, 0xFFFF_FFFF, 2]);
     assert!(before == host);
 }
 

@@ -7,7 +7,7 @@ use std::path::{Path, PathBuf};
 use std::process::{Command, Stdio};
 use std::{env, fs, thread};
 
-use makvluria::{Answer, Progress, IMAGE_BYTES, LINES_BYTES, TABLE_WORDS};
+use makvluria::{Answer, Driver, Process, Progress, IMAGE_BYTES, LINES_BYTES, TABLE_WORDS};
 use second::board::{DriverNumber, ProcessIndex};
 use second::generate::corpus::{every_cut, every_one_byte_change, small_corpus, WHOLE_CASE};
 use second::generate::generate_mixed;
@@ -59,19 +59,32 @@ impl Host {
         let Host { table, memory, flash } = self;
         match step {
             Step::Call { process, class, registers } => {
-                makvluria::call(table, memory, process.0, class, registers)
+                makvluria::call(table, memory, Process(process.0), class, registers)
             }
             Step::Event { process, driver, slot, arguments } => {
-                makvluria::event(table, process.0, driver.0, slot, arguments)
+                makvluria::event(table, Process(process.0), Driver(driver.0), slot, arguments)
             }
-            Step::Resume { process } => makvluria::resume(table, process.0),
-            Step::Deposit { process, driver, slot, offset, bytes } => {
-                makvluria::deposit(table, memory, process.0, driver.0, slot, offset, bytes)
-            }
-            Step::Fetch { process, driver, slot, offset, length } => {
-                makvluria::fetch(table, memory, flash, process.0, driver.0, slot, offset, length)
-            }
-            Step::Latch { driver, peak } => makvluria::latch(table, driver.0, peak),
+            Step::Resume { process } => makvluria::resume(table, Process(process.0)),
+            Step::Deposit { process, driver, slot, offset, bytes } => makvluria::deposit(
+                table,
+                memory,
+                Process(process.0),
+                Driver(driver.0),
+                slot,
+                offset,
+                bytes,
+            ),
+            Step::Fetch { process, driver, slot, offset, length } => makvluria::fetch(
+                table,
+                memory,
+                flash,
+                Process(process.0),
+                Driver(driver.0),
+                slot,
+                offset,
+                length,
+            ),
+            Step::Latch { driver, peak } => makvluria::latch(table, Driver(driver.0), peak),
         }
     }
 

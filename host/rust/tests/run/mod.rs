@@ -24,24 +24,24 @@ fn call_step(class: u8, registers: [u32; 4]) -> Step<'static> {
 }
 
 fn fetch_step(length: u32) -> Step<'static> {
-    let (process, driver) = (ProcessIndex(0), DriverNumber(UNSHARED));
+    let (process, driver) = (ProcessIndex(0), DriverNumber(UNSHARED.0));
     Step::Fetch { process, driver, slot: 0, offset: 0, length }
 }
 
 /// A step of each kind and its line; each of them changes something or tells what another changed.
 fn steps() -> [(Step<'static>, &'static str); 10] {
-    let (process, driver, slot) = (ProcessIndex(0), DriverNumber(UNSHARED), 0);
+    let (process, driver, slot) = (ProcessIndex(0), DriverNumber(UNSHARED.0), 0);
     [
-        (call_step(READ_WRITE, [UNSHARED, 0, 0x2000_0100, 16]), "A 130 0 0 0\n"),
+        (call_step(READ_WRITE, [UNSHARED.0, 0, 0x2000_0100, 16]), "A 130 0 0 0\n"),
         (Step::Deposit { process, driver, slot, offset: 1, bytes: &[9, 8, 7] }, "D\n"),
-        (call_step(READ_ONLY, [UNSHARED, 0, 0x2000_0100, 16]), "A 130 0 0 0\n"),
+        (call_step(READ_ONLY, [UNSHARED.0, 0, 0x2000_0100, 16]), "A 130 0 0 0\n"),
         (fetch_step(4), "F 4 0 9 8 7\n"),
-        (call_step(SUBSCRIBE, [UNSHARED, 0, 0x0004_0010, 7]), "A 130 0 0 0\n"),
+        (call_step(SUBSCRIBE, [UNSHARED.0, 0, 0x0004_0010, 7]), "A 130 0 0 0\n"),
         (Step::Event { process, driver, slot, arguments: [1, 2, 3] }, "Q\n"),
         (call_step(YIELD, [1, 0, 0, 0]), "U 262160 1 2 3 7\n"),
         (call_step(YIELD, [1, 0, 0, 0]), "W\n"),
         (Step::Resume { process }, "W\n"),
-        (Step::Latch { driver: DriverNumber(SHARED), peak: -5 }, "L\n"),
+        (Step::Latch { driver: DriverNumber(SHARED.0), peak: -5 }, "L\n"),
     ]
 }
 
@@ -56,7 +56,7 @@ fn records_at() -> usize {
 
 /// Fetches of so many bytes out of flash, with another line after each.
 fn trace_of_fetches(lengths: &[u32]) -> Vec<u8> {
-    let mut steps = vec![call_step(READ_ONLY, [UNSHARED, 0, 0x0004_0000, 0x4000])];
+    let mut steps = vec![call_step(READ_ONLY, [UNSHARED.0, 0, 0x0004_0000, 0x4000])];
     for &length in lengths {
         steps.extend([fetch_step(length), call_step(MEMOP, [2, 0, 0, 0])]);
     }
@@ -68,9 +68,9 @@ fn trace_of_whole_images(times: usize) -> Vec<u8> {
     #[rustfmt::skip]
     let board = [
         1, 0x2000_0000, 0x2001_0000, 0x2001_0000, 0x2000_0000, 0x0004_0000, 0x0005_0000, 1,
-        1, UNSHARED, 0, 0, 1, 0,
+        1, UNSHARED.0, 0, 0, 1, 0,
     ];
-    let mut steps = vec![call_step(READ_ONLY, [UNSHARED, 0, 0x0004_0000, 65_536])];
+    let mut steps = vec![call_step(READ_ONLY, [UNSHARED.0, 0, 0x0004_0000, 65_536])];
     steps.extend(vec![fetch_step(65_536); times]);
     write_trace(&board, &steps)
 }
@@ -310,7 +310,7 @@ fn a_bad_board_and_a_broken_record_end_a_run() {
     assert_eq!(host.run(&[1, 0xFF]), "B 0\n");
     assert!(before == host);
 
-    let latch = Step::Latch { driver: DriverNumber(SHARED), peak: 0 };
+    let latch = Step::Latch { driver: DriverNumber(SHARED.0), peak: 0 };
     let mut trace = write_trace(&BOARD, &[latch]);
     let at = trace.len();
     trace.extend([6, 2, 0]); // no record is of kind 6
