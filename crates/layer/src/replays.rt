@@ -18,12 +18,12 @@ use super::fetches;
 use super::steps;
 use calls::signed;
 use lines::Line;
-use trace::numbers::Number;
 use trace::reader;
 use trace::records::Board;
 use trace::records::Fields;
 use trace::records::Read;
 use trace::records::Record;
+use trace::records::Words;
 use trace::records::board_at;
 use types::Answer;
 use types::Driver;
@@ -281,11 +281,13 @@ pub(crate) fn begin(
     }
     let mut board = [0u32; Board::MAX_WORDS];
     match board_at(trace, &mut board) {
-        Number::Value(count, next) => {
+        Words::Read(count, next) => {
             let n = count as usize;
             start_on(trace, next, &board[..n], table, memory, flash, out)
         }
-        Number::Broken => Progress::Ended(lines::put_broken(out, 0, 0)),
-        Number::Cut => Progress::Ended(lines::put_broken(out, 0, 0)),
+        Words::Broken => Progress::Ended(lines::put_broken(out, 0, 0)),
+        Words::Cut => Progress::Ended(lines::put_broken(out, 0, 0)),
+        // There is room for the largest board.
+        Words::NoRoom => Progress::Paused(0, 0),
     }
 }
