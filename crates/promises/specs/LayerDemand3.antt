@@ -1,6 +1,7 @@
 -- Demand 3 of the layer: its calls are the definition's run, which is isolated.
+use Prim.Native.Nat.{ℕ}
 use mathlib.Core.Path.{_≡_, refl, sym, ap, ap₂, _∙_, subst}
-use mathlib.Core.Bool.{Bool}
+use mathlib.Core.Bool.{Bool, true}
 use mathlib.Core.List.{List, [], _∷_}
 use Rattle.definition.specs.Tests.{if_then_else_}
 use Rattle.definition.specs.Answer.{Answer, fetched, changesNothing}
@@ -12,23 +13,32 @@ use Rattle.definition.specs.Table.{Lent, tableStep, start}
 use Rattle.laws.specs.Unchanged.{unchanged}
 use Rattle.layer.specs.Steps.{lent, gave}
 use Rattle.layer.specs.StatementLaws.{fetch-whole}
+use Rattle.bridge.specs.Calls.{numberTo, partTo, Called, called, evented, resumed, deposited, handed, located, found, latched, Ran, ended, next}
 use Rattle.promises.specs.Promises.{after, recordOf, ramIn, Isolated}
 use Rattle.promises.specs.Demand3.{isolation}
-use Rattle.promises.specs.Calls.{Called, called, evented, resumed, deposited, handed, latched, Ran, ended, next, answersFor, LayerIsolation}
+use Rattle.promises.specs.LayerPromises.{answersFor, LayerIsolation}
 
 -- ---- a call is the definition's step
 
+module _ (p driver j offset n : ℕ) (x : Lent) where
+  -- a fetch is known by its answer: it changes nothing that is lent
+  fetch-is : {r : Answer} → tableStep (own p (fetch driver j offset n)) x .answer ≡ r → changesNothing r ≡ true → tableStep (own p (fetch driver j offset n)) x ≡ gave r x
+  fetch-is e nothing = λ i. gave (e i) (unchanged .tables (own p (fetch driver j offset n)) x (ap changesNothing e ∙ nothing) i)
+
+  -- and its answer by its number
+  numbered : {number : ℕ} → number ≡ numberTo (own p (fetch driver j offset n)) x
+      → tableStep (own p (fetch driver j offset n)) x ≡ gave (fetched number (partTo (own p (fetch driver j offset n)) x)) x
+  numbered e = fetch-is (fetch-whole p driver j offset n x ∙ ap (λ (k : ℕ). fetched k (partTo (own p (fetch driver j offset n)) x)) (sym e)) refl
+
 call-is : {s : Step} {x : Lent} {r : Answer} {y : Lent} → Called s x r y → tableStep s x ≡ gave r y
-call-is (called p class r0 r1 r2 r3 t m f r t′ m′ c) = c f
-call-is (evented p driver j x y z t m f r t′ c) = c m f
-call-is (resumed p t m f r t′ c) = c m f
-call-is (deposited p driver j offset bytes t m f r m′ c) = c f
-call-is (handed p driver j offset n t m f r number part en ep is) =
-    let s = own p (fetch driver j offset n) in
-    let x : Lent = lent t (m .now) (f .now) in
-    let e : tableStep s x .answer ≡ fetched number part = fetch-whole p driver j offset n x ∙ ap₂ fetched (sym en) (sym ep) in
-    λ i. gave (e i) (unchanged .tables s x (ap changesNothing e) i)
-call-is (latched driver peak t m f r t′ c) = c m f
+call-is (called c) = c _
+call-is (evented c) = c _ _
+call-is (resumed c) = c _ _
+call-is (deposited c) = c _
+call-is (handed e is) = numbered _ _ _ _ _ _ e
+call-is (located e lies) = numbered _ _ _ _ _ _ e
+call-is (found finds) = fetch-is _ _ _ _ _ _ (finds .answer) refl
+call-is (latched c) = c _ _
 
 -- ---- a list of calls is the definition's run
 

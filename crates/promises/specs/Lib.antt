@@ -2,7 +2,7 @@
 pub mod History
 pub mod Accepted
 pub mod Promises
-pub mod Calls
+pub mod LayerPromises
 -- ---- accepted exactly when
 pub mod Told
 pub mod Conditions

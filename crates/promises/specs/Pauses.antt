@@ -1,7 +1,7 @@
 -- A run over a trace in several calls: what they wrote, one after the other, is the run's lines.
 use Prim.Native.Nat.{ℕ}
 use mathlib.Core.Path.{_≡_, sym, ap, ap₂, _∙_}
-use mathlib.Core.List.{List, _++_}
+use mathlib.Core.List.{List}
 use lib.ListN.{length, take, drop}
 use lib.Seq.{take-at}
 use Rattle.definition.specs.Table.{Lent}
@@ -9,20 +9,15 @@ use Rattle.definition.specs.Replay.{endless, left, Played, played, following, p
 use Rattle.laws.specs.Pauses.{onward, run-whole}
 use Rattle.layer.specs.declared.Progress.{Progress}
 use Rattle.layer.specs.declared.Progress.the-variants.{Ended, Paused}
-use Rattle.layer.specs.Replaying.{Leaves, Plays}
+use Rattle.layer.specs.Replaying.{Leaves}
+use Rattle.bridge.specs.Replays.{Replayed, ended, went}
 use Rattle.layer.specs.StatementLaws.{forward, board-forward, told-before, told-end}
-
--- calls one after the other, each from the place at which the last one paused and on what it left, with buffers of any length: what they wrote, in order
-pub data Replayed (s : List ℕ) : Lent → ℕ → Lent → List ℕ → Type 0 where
-  ended : (x : Lent) (at : ℕ) (old : List ℕ) (n : ℕ) (y : Lent) (new : List ℕ) → Plays s x at old (Ended n) y new → Replayed s x at y (take n new)
-  went : (x : Lent) (at : ℕ) (old : List ℕ) (i n : ℕ) (y : Lent) (new : List ℕ) {z : Lent} {rest : List ℕ} → Plays s x at old (Paused i n) y new → Replayed s y i z rest
-      → Replayed s x at z (take n new ++ rest)
 
 -- the bytes that are told of are those that were written
 front : (w : Played) (old : List ℕ) (r : Progress) (y : Lent) (new : List ℕ) (n : ℕ) → Leaves w old r y new → n ≡ length (w .written) → take n new ≡ w .written
 front w old r y new n leaves e = ap (take n) (leaves .lines) ∙ take-at (w .written) (drop (length (w .written)) old) n (sym e)
 
--- it is the run's lines, and what is lent afterwards is the run's
+-- what such calls wrote is the run's lines, and what is lent afterwards is the run's
 pub replayed-whole : {s : List ℕ} {x y : Lent} {at : ℕ} {written : List ℕ} → Replayed s x at y written → playAt s x at endless ≡ played y written
 replayed-whole {s} (ended x at old n y new p) =
     let w = playAt s x at (left (length old)) in

@@ -1,0 +1,3 @@
+-- ---- calls of the layer, one after another
+pub mod Calls
+pub mod Replays
