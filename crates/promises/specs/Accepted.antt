@@ -90,39 +90,40 @@ MovedBy old change new = ((change < 2 ^ 31) × (new ≡ old + change)) ⊎ ((2 ^
 
 -- ---- accepted exactly if
 
--- of each call: it is accepted exactly if its conditions hold, and its answer is then the one that is stated
-pub record AcceptedExactly (w : World) (p : ℕ) : Type 0 where
+-- of each call of process p in the world w, by what it is answered: it is accepted exactly if its conditions hold, and its answer is then the one that
+-- is stated
+pub record AcceptedExactly (w : World) (p : ℕ) (answer : (class r0 r1 r2 r3 : ℕ) → Answer) : Type 0 where
   -- subscribe and both allows, which answer the pair that the slot held
-  pub exchange : (kind : Kind) (driver j x y : ℕ) → (isAccepted (answerTo w p (classOf kind) driver j x y) ≡ true) ↔ (Exchanges kind w p driver j x y)
+  pub exchange : (kind : Kind) (driver j x y : ℕ) → (isAccepted (answer (classOf kind) driver j x y) ≡ true) ↔ (Exchanges kind w p driver j x y)
   pub exchange-answer : (kind : Kind) (driver j x y : ℕ) (e : Exchanges kind w p driver j x y)
-      → answerTo w p (classOf kind) driver j x y ≡ successWith2 (held kind (processIn w p) (e .place) j)
+      → answer (classOf kind) driver j x y ≡ successWith2 (held kind (processIn w p) (e .place) j)
   -- command 0, which tells that the driver is there
-  pub exists : (driver x y : ℕ) → (isAccepted (answerTo w p 2 driver 0 x y) ≡ true) ↔ (Commands w p driver)
-  pub exists-answer : (driver x y : ℕ) → Commands w p driver → answerTo w p 2 driver 0 x y ≡ success
+  pub exists : (driver x y : ℕ) → (isAccepted (answer 2 driver 0 x y) ≡ true) ↔ (Commands w p driver)
+  pub exists-answer : (driver x y : ℕ) → Commands w p driver → answer 2 driver 0 x y ≡ success
   -- commands 1 to 3: claim of a driver that is free or one's own; release and read of one's own, which answers its latch
-  pub claim : (driver x y : ℕ) → (isAccepted (answerTo w p 2 driver 1 x y) ≡ true) ↔ (SharedCommands w p driver (λ owner. (owner ≡ 0) ⊎ (owner ≡ suc p)))
-  pub claim-answer : (driver x y : ℕ) → SharedCommands w p driver (λ owner. (owner ≡ 0) ⊎ (owner ≡ suc p)) → answerTo w p 2 driver 1 x y ≡ success
-  pub release : (driver x y : ℕ) → (isAccepted (answerTo w p 2 driver 2 x y) ≡ true) ↔ (SharedCommands w p driver (λ owner. owner ≡ suc p))
-  pub release-answer : (driver x y : ℕ) → SharedCommands w p driver (λ owner. owner ≡ suc p) → answerTo w p 2 driver 2 x y ≡ success
-  pub read : (driver x y : ℕ) → (isAccepted (answerTo w p 2 driver 3 x y) ≡ true) ↔ (SharedCommands w p driver (λ owner. owner ≡ suc p))
-  pub read-answer : (driver x y : ℕ) (c : SharedCommands w p driver (λ owner. owner ≡ suc p)) → answerTo w p 2 driver 3 x y ≡ successWith1 (claimIn w (c .place) .latch)
+  pub claim : (driver x y : ℕ) → (isAccepted (answer 2 driver 1 x y) ≡ true) ↔ (SharedCommands w p driver (λ owner. (owner ≡ 0) ⊎ (owner ≡ suc p)))
+  pub claim-answer : (driver x y : ℕ) → SharedCommands w p driver (λ owner. (owner ≡ 0) ⊎ (owner ≡ suc p)) → answer 2 driver 1 x y ≡ success
+  pub release : (driver x y : ℕ) → (isAccepted (answer 2 driver 2 x y) ≡ true) ↔ (SharedCommands w p driver (λ owner. owner ≡ suc p))
+  pub release-answer : (driver x y : ℕ) → SharedCommands w p driver (λ owner. owner ≡ suc p) → answer 2 driver 2 x y ≡ success
+  pub read : (driver x y : ℕ) → (isAccepted (answer 2 driver 3 x y) ≡ true) ↔ (SharedCommands w p driver (λ owner. owner ≡ suc p))
+  pub read-answer : (driver x y : ℕ) (c : SharedCommands w p driver (λ owner. owner ≡ suc p)) → answer 2 driver 3 x y ≡ successWith1 (claimIn w (c .place) .latch)
   -- no other command
-  pub otherCommand : (driver number x y : ℕ) → 3 < number → isAccepted (answerTo w p 2 driver number x y) ≡ false
+  pub otherCommand : (driver number x y : ℕ) → 3 < number → isAccepted (answer 2 driver number x y) ≡ false
   -- memop 0 and 1: break to, and break by, which answers the old break
-  pub breakTo : (new x y : ℕ) → (isAccepted (answerTo w p 5 0 new x y) ≡ true) ↔ (BreakMoves w p new)
-  pub breakTo-answer : (new x y : ℕ) → BreakMoves w p new → answerTo w p 5 0 new x y ≡ success
+  pub breakTo : (new x y : ℕ) → (isAccepted (answer 5 0 new x y) ≡ true) ↔ (BreakMoves w p new)
+  pub breakTo-answer : (new x y : ℕ) → BreakMoves w p new → answer 5 0 new x y ≡ success
   pub breakBy : (change x y : ℕ) → change < 2 ^ 32
-      → (isAccepted (answerTo w p 5 1 change x y) ≡ true) ↔ ((new : ℕ) × MovedBy (processIn w p .break) change new × BreakMoves w p new)
+      → (isAccepted (answer 5 1 change x y) ≡ true) ↔ ((new : ℕ) × MovedBy (processIn w p .break) change new × BreakMoves w p new)
   pub breakBy-answer : (change x y : ℕ) → change < 2 ^ 32 → ((new : ℕ) × MovedBy (processIn w p .break) change new × BreakMoves w p new)
-      → answerTo w p 5 1 change x y ≡ successWith1 (processIn w p .break)
+      → answer 5 1 change x y ≡ successWith1 (processIn w p .break)
   -- memop 2 to 6, which answer a bound, and no other
-  pub bound : (operation x y z : ℕ) → 2 ≤ operation → operation ≤ 6 → (isAccepted (answerTo w p 5 operation x y z) ≡ true) ↔ (IsRunning w p)
-  pub bound-answer : (operation x y z : ℕ) → 2 ≤ operation → operation ≤ 6 → IsRunning w p → answerTo w p 5 operation x y z ≡ successWith1 (boundOf (areasIn w p) operation)
-  pub otherMemop : (operation x y z : ℕ) → 6 < operation → isAccepted (answerTo w p 5 operation x y z) ≡ false
+  pub bound : (operation x y z : ℕ) → 2 ≤ operation → operation ≤ 6 → (isAccepted (answer 5 operation x y z) ≡ true) ↔ (IsRunning w p)
+  pub bound-answer : (operation x y z : ℕ) → 2 ≤ operation → operation ≤ 6 → IsRunning w p → answer 5 operation x y z ≡ successWith1 (boundOf (areasIn w p) operation)
+  pub otherMemop : (operation x y z : ℕ) → 6 < operation → isAccepted (answer 5 operation x y z) ≡ false
   -- exit: 0 terminates, 1 restarts
-  pub exit : (number code x y : ℕ) → (isAccepted (answerTo w p 6 number code x y) ≡ true) ↔ (IsRunning w p × ((number ≡ 0) ⊎ (number ≡ 1)))
-  pub terminate-answer : (code x y : ℕ) → IsRunning w p → answerTo w p 6 0 code x y ≡ terminated code
-  pub restart-answer : (code x y : ℕ) → IsRunning w p → answerTo w p 6 1 code x y ≡ restarted code
+  pub exit : (number code x y : ℕ) → (isAccepted (answer 6 number code x y) ≡ true) ↔ (IsRunning w p × ((number ≡ 0) ⊎ (number ≡ 1)))
+  pub terminate-answer : (code x y : ℕ) → IsRunning w p → answer 6 0 code x y ≡ terminated code
+  pub restart-answer : (code x y : ℕ) → IsRunning w p → answer 6 1 code x y ≡ restarted code
   -- a yield gives an upcall, "waiting" or "nothing", and no other class is known
-  pub yield : (number address x y : ℕ) → isAccepted (answerTo w p 0 number address x y) ≡ false
-  pub otherClass : (class r0 r1 r2 r3 : ℕ) → 6 < class → isAccepted (answerTo w p class r0 r1 r2 r3) ≡ false
+  pub yield : (number address x y : ℕ) → isAccepted (answer 0 number address x y) ≡ false
+  pub otherClass : (class r0 r1 r2 r3 : ℕ) → 6 < class → isAccepted (answer class r0 r1 r2 r3) ≡ false

@@ -6,30 +6,32 @@ use mathlib.Core.List.{List, [], _∷_, map}
 use native.Mathlib.Omega.{arith}
 use lib.ListN.{length, getD, List·getD-map}
 use lib.Dec.{eqb}
-use borrow.Author.Tests.{eqb-true, eq-eqb}
+use borrow.Author.Tests.{eqb-true, eq-eqb, ne-eqb}
 use Rattle.definition.specs.Tests.{if_then_else_, Each, none, more}
 use Rattle.definition.specs.Limits.{imageBytes, allSlots}
 use Rattle.definition.specs.Board.{Board, Areas, Kind, areasAt, noAreas, placeOf}
 use Rattle.definition.specs.State.{Pair, null, Upcall, Status, running, waiting, Process, held, slotAt, cleared, Claim, free, fresh}
-use Rattle.definition.specs.Answer.{Answer, delivered, waits, nothing, successWith2}
+use Rattle.definition.specs.Answer.{Answer, delivered, waits, nothing, successWith2, isAccepted}
 use Rattle.definition.specs.Call.{decode, decodeYield, classOf}
 use Rattle.definition.specs.Decide.{Action, call, resume, View, Outcome, answers, exchanges, polls, awaits, moves, leaves, queues, writes, commands, decideKnown, decideCall, decideAccepted, refuse, decide}
 use Rattle.definition.specs.World.{deliver, commandAnswer, answerOf, World, Step, own, latch, Out, processAt, viewOf, perform, step}
 use Rattle.definition.specs.Runs.{isOwn, run}
 use Rattle.definition.specs.Image.{boardOf}
-use Rattle.definition.specs.Table.{Lent, wrongImage, lentOf, tableStep}
+use Rattle.definition.specs.Table.{Lent, wrongImage, worldOf, lentOf, tableStep}
 use Rattle.laws.specs.Facts.{never, clash, either, getD-same}
 use Rattle.laws.specs.Why.{isPlain, Left, Because, Why}
 use Rattle.laws.specs.Walk.{refuse-plain}
 use Rattle.laws.specs.Boards.{ground}
-use Rattle.laws.specs.Good.{Good}
+use Rattle.laws.specs.Good.{Good, of-good}
 use Rattle.laws.specs.Kept.{decided, decided-why}
+use Rattle.laws.specs.ImageBack.{good-back}
 use Rattle.promises.specs.History.{Heard, heard, historyOf, isExchange, isExit, lastPair, Pending, pending, TakenIn, Delivery}
-use Rattle.promises.specs.Accepted.{processIn}
-use Rattle.promises.specs.Promises.{after, history, recordOf, upcallOf, Accounted, Accounting}
+use Rattle.promises.specs.Accepted.{processIn, answerTo, AcceptedExactly}
+use Rattle.promises.specs.Promises.{after, history, nextOf, recordOf, upcallOf, Accounted, Accounting}
 use Rattle.promises.specs.Guarded.{guarded, guarded-keeps, guarded-board, run-keeps, run-board, run-length, table-step, table-run, table-history}
 use Rattle.promises.specs.Isolation.{other-guarded, own-process}
 use Rattle.promises.specs.Conditions.{waiting-passes, answerBy, call-answer}
+use Rattle.promises.specs.AcceptedExactly.{accepted-exactly}
 use Rattle.promises.specs.SlotsTold.{SlotsTold, plain-silent, deliver-silent, left-exit, last-silent, command-plain, same-kind, outcome-slots}
 use Rattle.promises.specs.QueueTold.{QueueTold, plain-queue, outcome-queue}
 use Rattle.promises.specs.Demand3.{Started, begun, accepted-start, begun-good, begun-board, record-image}
@@ -182,12 +184,26 @@ module _ (a : ℕ) (w : World) (known : a < length (w .state .board .processes))
   unfolding guarded wrongImage step perform decide decideAccepted answerOf if_then_else_
   resume-answer e = rw (waiting-passes w a known e)
 
+-- with an image of its length a call is that of the state, and with another it is refused
+whole-image : (a : ℕ) (w : World) (class r0 r1 r2 r3 : ℕ) → length (w .memory) ≡ imageBytes → guarded (own a (call class r0 r1 r2 r3)) w .answer ≡ answerTo w a class r0 r1 r2 r3
+unfolding guarded wrongImage if_then_else_
+whole-image a w class r0 r1 r2 r3 m = rw (eq-eqb (length (w .memory)) imageBytes m)
+
+no-image : (a : ℕ) (w : World) (class r0 r1 r2 r3 : ℕ) → (length (w .memory) ≡ imageBytes → ⊥) → isAccepted (guarded (own a (call class r0 r1 r2 r3)) w .answer) ≡ false
+unfolding guarded wrongImage if_then_else_
+no-image a w class r0 r1 r2 r3 m = rw (ne-eqb (length (w .memory)) imageBytes m)
+
+-- what is accepted is so in the same world, and by the same answers
+accepted-by : {w v : World} {a : ℕ} {f g : (class r0 r1 r2 r3 : ℕ) → Answer} → w ≡ v → ((class r0 r1 r2 r3 : ℕ) → f class r0 r1 r2 r3 ≡ g class r0 r1 r2 r3)
+    → AcceptedExactly v a g → AcceptedExactly w a f
+accepted-by {v = v} {a = a} {f = f} p q h = subst (λ u. AcceptedExactly u a f) (sym p) (subst (AcceptedExactly v a) (sym (λ i class r0 r1 r2 r3. q class r0 r1 r2 r3 i)) h)
+
 -- ---- the claim
 
 pub accounting : Accounting
 accounting words x e a h l =
     let s = accepted-start words x e in
-    subst (Accounted (boardOf words) a l) (sym (s .leaves)) (accounted s)
+    subst (λ y. Accounted (boardOf words) a y (history a l y) (after l y) (nextOf a l y)) (sym (s .leaves)) (accounted s)
   where
     b : Board
     b = boardOf words
@@ -195,7 +211,7 @@ accounting words x e a h l =
     w : World
     w = begun words x
 
-    accounted : Started words x → Accounted b a l (lentOf w)
+    accounted : Started words x → Accounted b a (lentOf w) (history a l (lentOf w)) (after l (lentOf w)) (nextOf a l (lentOf w))
     accounted s =
         let g = begun-good words x s in
         let board : w .state .board ≡ b = begun-board words x s in
@@ -212,7 +228,10 @@ accounting words x e a h l =
         let known : a < length (end .state .board .processes) = subst (λ r. a < length (r .processes)) (sym (run-board l w)) here in
         let status : recordOf a (after l (lentOf w)) .status ≡ processAt (end .state) a .status = ap (λ (z : Process). z .status) recorded in
         let length-end : length (end .memory) ≡ length (w .memory) = sym (ap (λ (z : Lent). length (z .memory)) there) ∙ run-length l (lentOf w) in
+        let here : worldOf (after l (lentOf w)) ≡ end = ap worldOf there ∙ λ i. record { state = good-back (end .state) (of-good (end .state) g′) i; memory = end .memory; flash = end .flash } in
         record {
+          accepts = λ m. accepted-by here (λ class r0 r1 r2 r3. answer _ ∙ whole-image a end class r0 r1 r2 r3 (length-end ∙ m)) (accepted-exactly end (of-good (end .state) g′) a);
+          needsImage = λ m class r0 r1 r2 r3. ap isAccepted (answer _) ∙ no-image a end class r0 r1 r2 r3 (λ e. m (sym length-end ∙ e));
           returns = λ kind driver j r2 r3 old q. guarded-returns a end _ told′ kind driver j r2 r3 old (sym (answer _) ∙ q);
           delivers = λ action pointer r0 r1 r2 r3 q. guarded-delivers a end _ told′ action pointer r0 r1 r2 r3 (sym (answer _) ∙ q);
           yields = λ n address r2 r3 small e m. answer _ ∙ yield-answer a end known n address r2 r3 small (sym status ∙ e) (length-end ∙ m) ∙ ap (deliver _) (told .queue .same);

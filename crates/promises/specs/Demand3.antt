@@ -17,7 +17,7 @@ use Rattle.laws.specs.Good.{Good, of-good}
 use Rattle.laws.specs.Kept.{fresh-good}
 use Rattle.laws.specs.ImageBack.{good-back}
 use Rattle.laws.specs.BoardWords.{board-fits}
-use Rattle.promises.specs.Promises.{after, recordOf, ramIn, Alike, Isolated, Isolation}
+use Rattle.promises.specs.Promises.{after, answersOf, recordOf, ramIn, Alike, Isolated, Isolation}
 use Rattle.promises.specs.Guarded.{guarded, run-keeps, run-board, table-run, table-answers}
 use Rattle.promises.specs.Isolation.{Same, same-refl, same-sym, same-trans}
 use Rattle.promises.specs.IsolatedRuns.{Lonely, lonely, those-those, quiet-those, own-answers}
@@ -64,7 +64,8 @@ module _ (b : Board) (a : ℕ) (l k : List Step) (w : World) (g : Good (w .state
   unfolding viewOf
   seen-ram m = ap (λ r. ramOf (areasAt r a) (run guarded m w .memory)) (run-board m w ∙ same-board)
 
-  alike : answersTo guarded (isOwn a) l w ≡ answersTo guarded (isOwn a) k w → Same a (run guarded l w) (run guarded k w) → Alike b a l k (lentOf w)
+  alike : answersTo guarded (isOwn a) l w ≡ answersTo guarded (isOwn a) k w → Same a (run guarded l w) (run guarded k w)
+      → Alike b a (answersOf a l (lentOf w)) (after l (lentOf w)) k (lentOf w)
   alike heard s = record {
     answers = table-answers (isOwn a) l w g ∙ heard ∙ sym (table-answers (isOwn a) k w g);
     process = record-run l ∙ s .process ∙ sym (record-run k);
@@ -82,7 +83,7 @@ module _ (b : Board) (a : ℕ) (l k : List Step) (w : World) (g : Good (w .state
 pub isolation : Isolation
 isolation words x e a h l quiet =
     let s = accepted-start words x e in
-    subst (Isolated (boardOf words) a l) (sym (s .leaves)) (isolated s)
+    subst (λ y. Isolated (boardOf words) a l y (answersOf a l y) (after l y)) (sym (s .leaves)) (isolated s)
   where
     b : Board
     b = boardOf words
@@ -93,7 +94,7 @@ isolation words x e a h l quiet =
     kept : List Step
     kept = ownAndNobodys b a l
 
-    isolated : Started words x → Isolated b a l (lentOf w)
+    isolated : Started words x → Isolated b a l (lentOf w) (answersOf a l (lentOf w)) (after l (lentOf w))
     isolated s =
         let g = begun-good words x s in
         let board = begun-board words x s in

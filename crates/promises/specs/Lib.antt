@@ -3,6 +3,7 @@ pub mod History
 pub mod Accepted
 pub mod Promises
 pub mod LayerPromises
+pub mod Layers
 -- ---- accepted exactly when
 pub mod Told
 pub mod Conditions
@@ -13,11 +14,19 @@ pub mod Guarded
 pub mod Isolation
 pub mod IsolatedRuns
 pub mod Demand3
-pub mod LayerDemand3
 -- ---- demand 2
 pub mod SlotsTold
 pub mod QueueTold
 pub mod Demand2
 pub mod Stale
+-- ---- demands 2 and 3 of lists of the layer's calls
+pub mod LayerDemands
+-- ---- any layer
+pub mod LayersKeep
+pub mod DefinitionAllowed
+pub mod Wrong
+pub mod Begins
+pub mod Refuted
+pub mod WrongReader
 -- ---- a run over a trace, in several calls
 pub mod Pauses

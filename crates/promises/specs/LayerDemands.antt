@@ -1,22 +1,24 @@
--- Demand 3 of the layer: its calls are the definition's run, which is isolated.
+-- Demands 2 and 3 of the layer: a list of its calls is the definition's run, of which both hold.
 use Prim.Native.Nat.{ℕ}
 use mathlib.Core.Path.{_≡_, refl, sym, ap, ap₂, _∙_, subst}
 use mathlib.Core.Bool.{Bool, true}
 use mathlib.Core.List.{List, [], _∷_}
 use Rattle.definition.specs.Tests.{if_then_else_}
-use Rattle.definition.specs.Answer.{Answer, fetched, changesNothing}
-use Rattle.definition.specs.Decide.{fetch}
+use Rattle.definition.specs.Answer.{Answer, started, fetched, changesNothing}
+use Rattle.definition.specs.Decide.{Action, fetch}
 use Rattle.definition.specs.World.{Step, own, Out}
 use Rattle.definition.specs.Runs.{isOwn, run, answersTo, allAnswers}
 use Rattle.definition.specs.Image.{boardOf}
 use Rattle.definition.specs.Table.{Lent, tableStep, start}
 use Rattle.laws.specs.Unchanged.{unchanged}
-use Rattle.layer.specs.Steps.{lent, gave}
+use Rattle.layer.specs.Steps.{lent, gave, Starts}
 use Rattle.layer.specs.StatementLaws.{fetch-whole}
 use Rattle.bridge.specs.Calls.{numberTo, partTo, Called, called, evented, resumed, deposited, handed, located, found, latched, Ran, ended, next}
-use Rattle.promises.specs.Promises.{after, recordOf, ramIn, Isolated}
+use Rattle.promises.specs.History.{Heard, heard, historyOf}
+use Rattle.promises.specs.Promises.{after, answersOf, history, nextOf, Isolated, Accounted}
 use Rattle.promises.specs.Demand3.{isolation}
-use Rattle.promises.specs.LayerPromises.{answersFor, LayerIsolation}
+use Rattle.promises.specs.Demand2.{accounting}
+use Rattle.promises.specs.LayerPromises.{answersFor, historyFor, LayerAccounting, LayerIsolation}
 
 -- ---- a call is the definition's step
 
@@ -30,7 +32,7 @@ module _ (p driver j offset n : ℕ) (x : Lent) where
       → tableStep (own p (fetch driver j offset n)) x ≡ gave (fetched number (partTo (own p (fetch driver j offset n)) x)) x
   numbered e = fetch-is (fetch-whole p driver j offset n x ∙ ap (λ (k : ℕ). fetched k (partTo (own p (fetch driver j offset n)) x)) (sym e)) refl
 
-call-is : {s : Step} {x : Lent} {r : Answer} {y : Lent} → Called s x r y → tableStep s x ≡ gave r y
+pub call-is : {s : Step} {x : Lent} {r : Answer} {y : Lent} → Called s x r y → tableStep s x ≡ gave r y
 call-is (called c) = c _
 call-is (evented c) = c _ _
 call-is (resumed c) = c _ _
@@ -47,6 +49,12 @@ picked : (f : Step → Bool) (l : List Step) (x : Lent) → answersFor f l (allA
 unfolding answersFor answersTo if_then_else_
 picked f [] x = refl
 picked f (s ∷ l) x = ap (λ (rest : List Answer). if f s then tableStep s x .answer ∷ rest else rest) (picked f l (tableStep s x .after))
+
+-- a process's history
+heard-so : (a : ℕ) (l : List Step) (x : Lent) (hs : List Heard) → historyFor a l (allAnswers tableStep l x) hs ≡ historyOf tableStep a l x hs
+unfolding historyFor historyOf answersTo if_then_else_
+heard-so a [] x hs = refl
+heard-so a (s ∷ l) x hs = heard-so a l (tableStep s x .after) (heard a s (tableStep s x .answer) hs)
 
 pub record Same (l : List Step) (x : Lent) (answers : List Answer) (y : Lent) : Type 0 where
   pub given : answers ≡ allAnswers tableStep l x
@@ -65,15 +73,28 @@ layer-runs (next {s} {l} {r} {answers} {x} {y} {z} c ran) =
       left = rest .left ∙ ap (after l) y-is;
     }
 
+-- ---- what holds of the definition's run holds of them
+
+-- an accepted call of start
+began : (words t m f t′ : List ℕ) → Starts words t started t′ → (start words (lent t m f) .answer ≡ started) × (start words (lent t m f) .after ≡ lent t′ m f)
+began words t m f t′ begun = (ap (λ (o : Out Lent). o .answer) (begun m f), ap (λ (o : Out Lent). o .after) (begun m f))
+
 pub layer-isolation : LayerIsolation
 layer-isolation words t m f t′ begun a h l none answers y ran =
-    let began = begun m f in
-    let x : Lent = lent t m f in
-    let here : start words x .after ≡ lent t′ m f = ap (λ (o : Out Lent). o .after) began in
-    let i = subst (λ (z : Lent). Isolated (boardOf words) a l z) here (isolation words x (ap (λ (o : Out Lent). o .answer) began) a h l none) in
+    let (e, here) = began words t m f t′ begun in
+    let x : Lent = lent t′ m f in
+    let i = subst (λ z. Isolated (boardOf words) a l z (answersOf a l z) (after l z)) here (isolation words (lent t m f) e a h l none) in
     let r = layer-runs ran in
-    record {
-      answers = ap (answersFor (isOwn a) l) (r .given) ∙ picked (isOwn a) l (lent t′ m f) ∙ i .own;
-      process = ap (recordOf a) (r .left) ∙ i .alone .process;
-      ram = ap (ramIn (boardOf words) a) (r .left) ∙ i .alone .ram;
-    }
+    let mine : answersFor (isOwn a) l answers ≡ answersOf a l x = ap (answersFor (isOwn a) l) (r .given) ∙ picked (isOwn a) l x in
+    subst (λ given. Isolated (boardOf words) a l x given y) (sym mine) (subst (Isolated (boardOf words) a l x (answersOf a l x)) (sym (r .left)) i)
+
+pub layer-accounting : LayerAccounting
+layer-accounting words t m f t′ begun a h l answers y ran said calls =
+    let (e, here) = began words t m f t′ begun in
+    let x : Lent = lent t′ m f in
+    let i = subst (λ z. Accounted (boardOf words) a z (history a l z) (after l z) (nextOf a l z)) here (accounting words (lent t m f) e a h l) in
+    let r = layer-runs ran in
+    let told : historyFor a l answers [] ≡ history a l x = ap (λ rs. historyFor a l rs []) (r .given) ∙ heard-so a l x [] in
+    let answered : (action : Action) → said action ≡ nextOf a l x action = λ action. sym (ap (λ (o : Out Lent). o .answer) (call-is (calls action .1))) ∙ ap (λ z. tableStep (own a action) z .answer) (r .left) in
+    subst (λ hs. Accounted (boardOf words) a x hs y said) (sym told) (subst (λ z. Accounted (boardOf words) a x (history a l x) z said) (sym (r .left))
+    (subst (Accounted (boardOf words) a x (history a l x) (after l x)) (sym (λ i action. answered action i)) i))

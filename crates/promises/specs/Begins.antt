@@ -1,0 +1,121 @@
+-- The accepted start from which wrong layers are refuted: the board of the cases, on zeros. What each demand says of a layer there.
+use Prim.Native.Nat.{ℕ, _≤_, _<_}
+use mathlib.Core.Path.{_≡_, refl, sym, ap, _∙_, subst}
+use mathlib.Core.Bool.{true, false}
+use mathlib.Core.List.{List, [], _∷_, _++_}
+use lib.ListN.{length}
+use borrow.Author.Tests.{eq-eqb}
+use Rattle.definition.specs.Limits.{imageBytes}
+use Rattle.definition.specs.Board.{Kind}
+use Rattle.definition.specs.Answer.{Answer, started, isAccepted}
+use Rattle.definition.specs.Call.{classOf}
+use Rattle.definition.specs.Decide.{call}
+use Rattle.definition.specs.World.{World, Step, own}
+use Rattle.definition.specs.Runs.{isOwn, those, ownSteps, run, answersTo, allAnswers, sendsShared, sendsNone}
+use Rattle.definition.specs.Words.{sameWords}
+use Rattle.definition.specs.Image.{boardWords, boardOf}
+use Rattle.definition.specs.Table.{Lent, worldOf, lentOf, tableStep, start}
+use Rattle.definition.specs.Lines.{digits, decimal, spaced, line, lineOf}
+use Rattle.definition.specs.Cases.{areas, board, zeros, onTable}
+use Rattle.laws.specs.Facts.{clash, and}
+use Rattle.laws.specs.Good.{Good, of-good}
+use Rattle.laws.specs.ImageBack.{good-back}
+use Rattle.promises.specs.History.{heard, historyOf, lastPair, without, cancelledBy, takenBy, pendingAfter, pending}
+use Rattle.promises.specs.Accepted.{answerTo, AcceptedExactly}
+use Rattle.promises.specs.Promises.{Accounted}
+use Rattle.promises.specs.Layers.{Layer, Demand2, Demand3}
+use Rattle.promises.specs.AcceptedExactly.{accepted-exactly}
+use Rattle.promises.specs.Guarded.{guarded, table-answers}
+use Rattle.promises.specs.Demand3.{begun, accepted-start, begun-good}
+
+-- ---- things that are told by different words differ
+
+same-words : (l : List ℕ) → sameWords l l ≡ true
+unfolding sameWords
+same-words [] = refl
+same-words (x ∷ l) = and (eq-eqb x x refl) (same-words l)
+
+pub apart : {A : Type 0} (f : A → List ℕ) (x y : A) → sameWords (f x) (f y) ≡ false → x ≡ y → ⊥
+apart f x y e p = clash (same-words (f x)) (sym (ap (λ z. sameWords (f x) (f z)) (sym p)) ∙ e)
+
+-- the lines of some answers
+unfoldable pub linesOf : List Answer → List ℕ
+unfolding lineOf line spaced decimal digits
+linesOf [] = []
+linesOf (r ∷ l) = lineOf r ++ linesOf l
+
+-- ---- the start
+
+-- the board of the cases as words
+unfoldable pub words : List ℕ
+unfolding board areas
+words = boardWords 2 2 board
+
+-- what the start leaves; unfolding this unfolds every run from there, and what is told of it
+unfoldable pub ready : Lent
+unfolding words zeros onTable guarded linesOf sameWords those isOwn run sendsNone sendsShared historyOf heard lastPair without cancelledBy takenBy pendingAfter pending
+ready = start words zeros .after
+
+pub begins : start words zeros .answer ≡ started
+unfolding ready
+begins = refl
+
+-- both processes are on the board
+pub known : (a : ℕ) → a < 2 → a < length (boardOf words .processes)
+unfolding ready
+known a h = h
+
+pub image : length (ready .memory) ≡ imageBytes
+unfolding ready
+image = refl
+
+-- the same as a state, over which the definition's answers are computed: no table need be checked there
+abbrev pub beginning : World
+beginning = begun words zeros
+
+good : Good (beginning .state)
+good = begun-good words zeros (accepted-start words zeros begins)
+
+ready-is : ready ≡ lentOf beginning
+unfolding ready
+ready-is = accepted-start words zeros begins .leaves
+
+module _ (layer : Layer) where
+  -- demand 2, after a list
+  pub accounted : Demand2 layer → (a : ℕ) → a < 2 → (l : List Step)
+      → Accounted (boardOf words) a ready (historyOf (layer .step) a l ready []) (run (layer .step) l ready) (λ action. layer .step (own a action) (run (layer .step) l ready) .answer)
+  unfolding ready
+  accounted d a h l = d words zeros begins a (known a h) l
+
+  -- a memop that the definition accepts is answered as the definition answers it; a subscribe, an allow or a claim that the layer accepts, too
+  module _ (d : Demand2 layer) (a : ℕ) (h : a < 2) where
+    mine : AcceptedExactly beginning a (λ class r0 r1 r2 r3. layer .step (own a (call class r0 r1 r2 r3)) ready .answer)
+    unfolding run
+    mine = subst (λ w. AcceptedExactly w a (λ class r0 r1 r2 r3. layer .step (own a (call class r0 r1 r2 r3)) ready .answer)) (ap worldOf ready-is ∙ back) (accounted d a h [] .accepts image)
+      where
+        back : worldOf (lentOf beginning) ≡ beginning
+        back = λ i. record { state = good-back (beginning .state) (of-good (beginning .state) good) i; memory = zeros .memory; flash = zeros .flash }
+
+    its : AcceptedExactly beginning a (answerTo beginning a)
+    its = accepted-exactly beginning (of-good (beginning .state) good) a
+
+    pub same-bound : (n : ℕ) → 2 ≤ n → n ≤ 6 → isAccepted (answerTo beginning a 5 n 0 0 0) ≡ true → layer .step (own a (call 5 n 0 0 0)) ready .answer ≡ answerTo beginning a 5 n 0 0 0
+    same-bound n low high e =
+        let r = its .bound n 0 0 0 low high .0 e in
+        mine .bound-answer n 0 0 0 low high r ∙ sym (its .bound-answer n 0 0 0 low high r)
+
+    pub same-exchange : (kind : Kind) (driver j x y : ℕ) → isAccepted (layer .step (own a (call (classOf kind) driver j x y)) ready .answer) ≡ true
+        → layer .step (own a (call (classOf kind) driver j x y)) ready .answer ≡ answerTo beginning a (classOf kind) driver j x y
+    same-exchange kind driver j x y e =
+        let r = mine .exchange kind driver j x y .0 e in
+        mine .exchange-answer kind driver j x y r ∙ sym (its .exchange-answer kind driver j x y r)
+
+    pub same-claim : (driver : ℕ) → isAccepted (layer .step (own a (call 2 driver 1 0 0)) ready .answer) ≡ true → layer .step (own a (call 2 driver 1 0 0)) ready .answer ≡ answerTo beginning a 2 driver 1 0 0
+    same-claim driver e =
+        let r = mine .claim driver 0 0 .0 e in
+        mine .claim-answer driver 0 0 r ∙ sym (its .claim-answer driver 0 0 r)
+
+  -- demand 3, after a list: the answers
+  pub isolated : Demand3 layer → (a : ℕ) → a < 2 → (l : List Step) → sendsNone (boardOf words) a l ≡ true → answersTo (layer .step) (isOwn a) l ready ≡ allAnswers guarded (ownSteps a l) beginning
+  unfolding ready
+  isolated d a h l quiet = d words zeros begins a (known a h) l quiet .own ∙ ap (allAnswers tableStep (ownSteps a l)) ready-is ∙ table-answers (λ _. true) (ownSteps a l) beginning good
