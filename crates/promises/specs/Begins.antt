@@ -87,7 +87,7 @@ module _ (layer : Layer) where
   unfolding ready
   accounted d a h l = d words zeros begins a (known a h) l
 
-  -- a memop that the definition accepts is answered as the definition answers it; a subscribe, an allow or a claim that the layer accepts, too
+  -- a memop that the definition accepts is answered as the definition answers it; a subscribe or an allow that the layer accepts, too
   module _ (d : Demand2 layer) (a : ℕ) (h : a < 2) where
     mine : AcceptedExactly beginning a (λ class r0 r1 r2 r3. layer .step (own a (call class r0 r1 r2 r3)) ready .answer)
     unfolding run
@@ -109,11 +109,6 @@ module _ (layer : Layer) where
     same-exchange kind driver j x y e =
         let r = mine .exchange kind driver j x y .0 e in
         mine .exchange-answer kind driver j x y r ∙ sym (its .exchange-answer kind driver j x y r)
-
-    pub same-claim : (driver : ℕ) → isAccepted (layer .step (own a (call 2 driver 1 0 0)) ready .answer) ≡ true → layer .step (own a (call 2 driver 1 0 0)) ready .answer ≡ answerTo beginning a 2 driver 1 0 0
-    same-claim driver e =
-        let r = mine .claim driver 0 0 .0 e in
-        mine .claim-answer driver 0 0 r ∙ sym (its .claim-answer driver 0 0 r)
 
   -- demand 3, after a list: the answers
   pub isolated : Demand3 layer → (a : ℕ) → a < 2 → (l : List Step) → sendsNone (boardOf words) a l ≡ true → answersTo (layer .step) (isOwn a) l ready ≡ allAnswers guarded (ownSteps a l) beginning

@@ -36,7 +36,8 @@ historyFor a (s ∷ l) (r ∷ answers) hs = historyFor a l answers (heard a s r 
 abbrev pub Answers : Step → Lent → Answer → Type 0
 Answers s x r = (y : Lent) × Called s x r y
 
--- demand 2 of the layer: an accepted call of start, then calls by any list; next is what its functions then answer to each step of process a
+-- demand 2 of the layer: an accepted call of start, then calls by any list; next is what its functions then answer to each step of process a. There is
+-- such an answer to every step (`definition-allowed`)
 abbrev pub LayerAccounting : Type 0
 LayerAccounting =
     (words t m f : List ℕ) (t′ : List ℕ) → Starts words t started t′ → (a : ℕ) → a < length (boardOf words .processes)

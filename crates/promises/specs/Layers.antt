@@ -1,4 +1,4 @@
--- A layer, whoever wrote it, and what is asked of it: the three demands as propositions. Those that are wrong are refuted one by one (`Wrong`, docs/PROMISES.md).
+-- A layer, whoever wrote it, and what is asked of it: the three demands as propositions. `Wrong` has layers that break them (docs/PROMISES.md).
 use mathlib.Core.Path.{_≡_}
 use mathlib.Core.List.{List}
 use Prim.Native.Nat.{ℕ}
@@ -32,10 +32,16 @@ Demand2 layer = Accounts (layer .step)
 abbrev pub Demand3 : Layer → Type 0
 Demand3 layer = Isolates (layer .step)
 
+-- all three; and none of them
 pub record Keeps (layer : Layer) : Type 0 where
   pub demand1 : Demand1 layer
   pub demand2 : Demand2 layer
   pub demand3 : Demand3 layer
+
+pub record Breaks (layer : Layer) : Type 0 where
+  pub demand1 : ¬ Demand1 layer
+  pub demand2 : ¬ Demand2 layer
+  pub demand3 : ¬ Demand3 layer
 
 -- each of its values is one that the contracts of the public functions allow
 pub record Allowed (layer : Layer) : Type 0 where

@@ -21,9 +21,10 @@ pub mod Demand2
 pub mod Stale
 -- ---- demands 2 and 3 of lists of the layer's calls
 pub mod LayerDemands
--- ---- any layer
+-- ---- every layer that the contracts allow keeps the demands
 pub mod LayersKeep
 pub mod DefinitionAllowed
+-- ---- wrong layers, to be read, and their refutations
 pub mod Wrong
 pub mod Begins
 pub mod Refuted

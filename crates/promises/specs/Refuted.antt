@@ -8,32 +8,27 @@ use native.Mathlib.Omega.{arith}
 use lib.ListN.{length, getD}
 use Rattle.definition.specs.Board.{Kind, subscribe, readWrite}
 use Rattle.definition.specs.State.{null}
-use Rattle.definition.specs.Answer.{Part, Answer, refused, started, registers, successWith1, failure, NOSUPPORT, success, INVAL, isAccepted}
+use Rattle.definition.specs.Answer.{memory, Part, Answer, refused, registers, started, fetched, successWith1, successWith2, failure, success, INVAL, isAccepted}
 use Rattle.definition.specs.Call.{pair, classOf}
 use Rattle.definition.specs.Decide.{call, event, fetch}
 use Rattle.definition.specs.World.{Step, own, Out}
-use Rattle.definition.specs.Runs.{isOwn, ownSteps, answersTo, allAnswers, sendsNone}
+use Rattle.definition.specs.Runs.{isOwn, ownSteps, run, answersTo, allAnswers, sendsNone}
 use Rattle.definition.specs.Words.{sameWords}
 use Rattle.definition.specs.Image.{pairWords, boardOf}
-use Rattle.definition.specs.Table.{Lent, tableStep}
+use Rattle.definition.specs.Table.{Lent, worldOf, tableStep}
 use Rattle.definition.specs.Cases.{zeros}
-use Rattle.laws.specs.Facts.{never}
+use Rattle.laws.specs.Facts.{never, clash}
 use Rattle.layer.specs.Fetching.{partOf}
 use Rattle.promises.specs.History.{Pending}
 use Rattle.promises.specs.Accepted.{answerTo}
-use Rattle.promises.specs.Layers.{Layer, Demand1, Demand2, Demand3}
+use Rattle.promises.specs.Layers.{Layer, Demand1, Demand2, Demand3, Breaks}
+use Rattle.promises.specs.AcceptedExactly.{accepted-exactly}
 use Rattle.promises.specs.Guarded.{guarded}
 use Rattle.promises.specs.Demand2.{accounting}
 use Rattle.promises.specs.Demand3.{isolation}
 use Rattle.promises.specs.LayersKeep.{keeps-all}
 use Rattle.promises.specs.Wrong.{always, alwaysInval, fixedRegisters, firstRepeated, invalButYields, nothingStored, otherPart, sum32, anothersBuffer, everyClaim, upcallsKept, neverStarts}
-use Rattle.promises.specs.Begins.{apart, linesOf, words, ready, begins, beginning, accounted, same-bound, same-exchange, same-claim, isolated}
-
--- a layer that breaks each of the demands
-pub record Breaks (layer : Layer) : Type 0 where
-  pub demand1 : ¬ Demand1 layer
-  pub demand2 : ¬ Demand2 layer
-  pub demand3 : ¬ Demand3 layer
+use Rattle.promises.specs.Begins.{apart, linesOf, words, ready, begins, image, beginning, accounted, same-bound, same-exchange, isolated}
 
 breaks : (layer : Layer) → ¬ Demand2 layer → ¬ Demand3 layer → Breaks layer
 breaks layer two three = record { demand1 = λ d. three (keeps-all layer d .demand3); demand2 = two; demand3 = three }
@@ -141,10 +136,16 @@ anothers-buffer-wrong =
     breaks anothersBuffer (λ d. apart pairWords (pair 0x20000F00 0x100) null refl (accounted anothersBuffer d 1 first (lends ∷ []) .returns readWrite 1 0 0 0 (pair 0x20000F00 0x100) refl))
     (answers-differ anothersBuffer 1 first (lends ∷ own 1 (call 3 1 0 0 0) ∷ []) refl refl)
 
--- process 0 claims a driver that is not shared. Demand 3 says nothing of claims: it speaks of processes that send no command above 0 to a shared driver
+-- process 0 claims a driver that process 1 owns: on the state then, the definition would not accept it. Demand 3 says nothing of claims: it speaks of
+-- processes that send no command above 0 to a shared driver
+claims : List Step
+claims = own 1 (call 2 0x90000 1 0 0) ∷ []
+
 pub every-claim-wrong-2 : ¬ Demand2 everyClaim
-unfolding ready
-every-claim-wrong-2 d = apart (λ r. linesOf (r ∷ [])) success (failure NOSUPPORT) refl (same-claim everyClaim d 0 zeroth 1 refl)
+unfolding ready claims
+every-claim-wrong-2 d =
+    let may = accounted everyClaim d 0 zeroth claims .accepts image .claim 0x90000 0 0 .0 refl in
+    clash (accepted-exactly (worldOf (run (everyClaim .step) claims ready)) refl 0 .claim 0x90000 0 0 .1 may) refl
 
 pub every-claim-wrong-1 : ¬ Demand1 everyClaim
 every-claim-wrong-1 d = every-claim-wrong-2 (keeps-all everyClaim d .demand2)
@@ -157,7 +158,10 @@ fetches = own 0 (call 4 1 0 0x20000F00 0x100) ∷ own 0 (fetch 1 0 0 2) ∷ []
 module _ (made : Part → Part) (other : (x : Part) → length (made x .bytes) ≡ length (x .bytes) → ⊥) where
   pub length-wrong-3 : ¬ Demand3 (otherPart made)
   unfolding ready fetches
-  length-wrong-3 d = other _ (ap (λ l. length (partOf (getD l 1 success) .bytes)) (isolated (otherPart made) d 0 zeroth fetches refl))
+  length-wrong-3 d =
+      let handed : Part = record { image = memory; place = 0x0F00; bytes = 0 ∷ 0 ∷ [] } in
+      let e : successWith2 null ∷ fetched 0 (made handed) ∷ [] ≡ successWith2 null ∷ fetched 0 handed ∷ [] = isolated (otherPart made) d 0 zeroth fetches refl in
+      other handed (ap (λ l. length (partOf (getD l 1 success) .bytes)) e)
 
   pub length-wrong-1 : ¬ Demand1 (otherPart made)
   length-wrong-1 d = length-wrong-3 (keeps-all (otherPart made) d .demand3)

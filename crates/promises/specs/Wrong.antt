@@ -5,11 +5,13 @@ use lib.ListN.{set}
 use lib.Dec.{leb, eqb}
 use Rattle.definition.specs.Tests.{if_then_else_}
 use Rattle.definition.specs.Board.{readWrite, areasAt, placeOf}
-use Rattle.definition.specs.State.{State, withQueue}
-use Rattle.definition.specs.Answer.{Part, Answer, refused, registers, fetched, success, failure, INVAL, isAccepted, numberOf}
+use Rattle.definition.specs.State.{held, withQueue, State}
+use Rattle.definition.specs.Answer.{Part, Answer, refused, registers, fetched, failure, success, successWith2, INVAL, isAccepted, numberOf}
 use Rattle.definition.specs.Call.{pair}
 use Rattle.definition.specs.Decide.{call, event, resume, deposit, fetch, exchanges}
 use Rattle.definition.specs.World.{Step, own, latch, Out, processAt, perform, step}
+use Rattle.definition.specs.Runs.{sendsShared}
+use Rattle.definition.specs.Image.{stateOf}
 use Rattle.definition.specs.Table.{Lent, worldOf, lentOf, outOf, tableStep, start}
 use Rattle.layer.specs.Steps.{gave}
 use Rattle.layer.specs.Fetching.{partOf}
@@ -92,11 +94,13 @@ sum32 = stepping (byCalls λ p class r0 r1 r2 r3 x o.
 
 -- an accepted read-write allow returns the buffer that process 0 held there
 abbrev pub anothersBuffer : Layer
-anothersBuffer = stepping (byCalls λ p class r0 r1 r2 r3 x o. if eqb class 3 && isAccepted (o .answer) then gave (tableStep (own 0 (call 3 r0 r1 0 0)) x .answer) (o .after) else o)
+anothersBuffer = stepping (byCalls λ p class r0 r1 r2 r3 x o.
+    let s = stateOf (x .table) in
+    if eqb class 3 && isAccepted (o .answer) then gave (successWith2 (held readWrite (processAt s 0) (placeOf (s .board .drivers) r0) r1)) (o .after) else o)
 
--- every claim is granted
+-- every claim of a shared driver is granted
 abbrev pub everyClaim : Layer
-everyClaim = stepping (byCalls λ p class r0 r1 r2 r3 x o. if eqb class 2 && eqb r1 1 then gave success (o .after) else o)
+everyClaim = stepping (byCalls λ p class r0 r1 r2 r3 x o. if sendsShared (stateOf (x .table) .board) (call class r0 r1 r2 r3) && eqb r1 1 then gave success (o .after) else o)
 
 -- the process that a step names
 abbrev callerOf : Step → ℕ
