@@ -73,12 +73,19 @@ image = refl
 abbrev pub beginning : World
 beginning = begun words zeros
 
-good : Good (beginning .state)
+pub good : Good (beginning .state)
 good = begun-good words zeros (accepted-start words zeros begins)
 
-ready-is : ready ≡ lentOf beginning
+pub ready-is : ready ≡ lentOf beginning
 unfolding ready
 ready-is = accepted-start words zeros begins .leaves
+
+-- steps of process 0: a subscribe, and a read-write allow
+unfoldable pub subscribes : Step
+subscribes = own 0 (call 1 1 0 0x00040010 7)
+
+unfoldable pub lends : Step
+lends = own 0 (call 3 1 0 0x20000F00 0x100)
 
 module _ (layer : Layer) where
   -- demand 2, after a list

@@ -29,5 +29,8 @@ pub mod Wrong
 pub mod Begins
 pub mod Refuted
 pub mod WrongReader
+-- ---- wrong answers of each public function, refuted by its statement
+pub mod WrongAnswers
+pub mod WrongWords
 -- ---- a run over a trace, in several calls
 pub mod Pauses

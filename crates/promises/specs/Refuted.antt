@@ -28,7 +28,7 @@ use Rattle.promises.specs.Demand2.{accounting}
 use Rattle.promises.specs.Demand3.{isolation}
 use Rattle.promises.specs.LayersKeep.{keeps-all}
 use Rattle.promises.specs.Wrong.{always, alwaysInval, fixedRegisters, firstRepeated, invalButYields, nothingStored, otherPart, sum32, anothersBuffer, everyClaim, upcallsKept, neverStarts}
-use Rattle.promises.specs.Begins.{apart, linesOf, words, ready, begins, image, beginning, accounted, same-bound, same-exchange, isolated}
+use Rattle.promises.specs.Begins.{apart, linesOf, words, ready, begins, image, beginning, subscribes, lends, accounted, same-bound, same-exchange, isolated}
 
 breaks : (layer : Layer) → ¬ Demand2 layer → ¬ Demand3 layer → Breaks layer
 breaks layer two three = record { demand1 = λ d. three (keeps-all layer d .demand3); demand2 = two; demand3 = three }
@@ -95,9 +95,6 @@ inval-but-yields-wrong stores =
 -- ---- the definition, but for one thing
 
 -- of two subscribes the second returns the pair of the first
-subscribes : Step
-subscribes = own 0 (call 1 1 0 0x00040010 7)
-
 pub nothing-stored-wrong : Breaks nothingStored
 unfolding ready subscribes
 nothing-stored-wrong =
@@ -117,7 +114,7 @@ again = subscribes ∷ own 0 (event 1 0 1 2 3) ∷ own 0 (call 1 1 0 0x00040020 
 none-first : {u : Pending} {rest : List Pending} → [] ≡ u ∷ rest → ⊥
 none-first e = never (cc)
 
-refused-not-started : (n : ℕ) → refused n ≡ started → ⊥
+pub refused-not-started : (n : ℕ) → refused n ≡ started → ⊥
 refused-not-started n e = never (cc)
 
 pub upcalls-kept-wrong : Breaks upcallsKept
@@ -127,9 +124,6 @@ upcalls-kept-wrong =
     (answers-differ upcallsKept 0 zeroth (again ++ (own 0 (call 0 0 0 0 0) ∷ [])) refl refl)
 
 -- process 0's buffer is not process 1's
-lends : Step
-lends = own 0 (call 3 1 0 0x20000F00 0x100)
-
 pub anothers-buffer-wrong : Breaks anothersBuffer
 unfolding ready lends
 anothers-buffer-wrong =
