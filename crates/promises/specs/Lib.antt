@@ -32,5 +32,7 @@ pub mod WrongReader
 -- ---- wrong answers of each public function, refuted by its statement
 pub mod WrongAnswers
 pub mod WrongWords
+-- ---- a contract allows one outcome
+pub mod OneOutcome
 -- ---- a run over a trace, in several calls
 pub mod Pauses

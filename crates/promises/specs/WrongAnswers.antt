@@ -1,7 +1,7 @@
 -- Wrong answers of each public function of the layer contradict its statement, on tables that are reached from the start of the cases: no code whatever could
 -- be proved with them.
 use Prim.Native.Nat.{ℕ, _+_}
-use mathlib.Core.Path.{_≡_, refl, sym, ap, ap₂, _∙_}
+use mathlib.Core.Path.{_≡_, refl, sym, ap, _∙_}
 use mathlib.Core.Bool.{false}
 use mathlib.Core.List.{List, [], _∷_}
 use lib.ListN.{length, getD}
@@ -16,9 +16,9 @@ use Rattle.definition.specs.Runs.{run}
 use Rattle.definition.specs.Words.{sameWords}
 use Rattle.definition.specs.Image.{pairWords, stateOf}
 use Rattle.definition.specs.Table.{Lent, lentOf, tableStep}
-use Rattle.definition.specs.Replay.{atEnd, playAt}
+use Rattle.definition.specs.Replay.{Stop, atEnd, playAt}
 use Rattle.definition.specs.Cases.{zeros}
-use Rattle.definition.specs.TraceCases.{wholeTrace, inRoom, rooms-kept, rooms-written}
+use Rattle.definition.specs.TraceCases.{wholeTrace, inRoom, rooms-kept}
 use Rattle.laws.specs.Good.{Good, of-good}
 use Rattle.laws.specs.ImageBack.{good-back}
 use Rattle.layer.specs.declared.Place.{Place}
@@ -237,7 +237,10 @@ module _ (old : List ℕ) (y : Lent) (new : List ℕ) (size : length old ≡ 64)
   unfolding inRoom playAt if_then_else_
   replay-elsewhere r other p =
       other (p .told ∙ ap (λ k. progressBy (inRoom k .stop) (length (inRoom k .written))) size
-      ∙ ap₂ progressBy (ap (λ l. getD l 2 atEnd) rooms-kept) (ap (λ l. getD l 2 0) rooms-written))
+      ∙ ap (λ l. told (getD l 1 (atEnd, 0))) rooms-kept)
+    where
+      told : Stop × ℕ → Progress
+      told x = progressBy (x .0) (x .1)
 
   -- so it is not paused with nothing done, nor inside a record
   pub replay-idle : ¬ Plays wholeTrace zeros 0 old (Paused 0 0) y new
