@@ -117,8 +117,8 @@ static void replay(const uint8_t *trace, size_t trace_bytes) {
   uint8_t lines[64];
   uint64_t run[MK_RUN_WORDS];
   size_t at = 0;
-  while (mk_replay(trace, trace_bytes, at, table, MK_TABLE_WORDS, memory, MK_IMAGE_BYTES, flash, MK_IMAGE_BYTES, lines, sizeof lines, run,
-                   MK_RUN_WORDS)) {
+  while (mk_trace_replay(trace, trace_bytes, at, table, MK_TABLE_WORDS, memory, MK_IMAGE_BYTES, flash, MK_IMAGE_BYTES, lines,
+                         sizeof lines, run, MK_RUN_WORDS)) {
     fwrite(lines, 1, run[2], stdout);
     if (run[0] == MK_ENDED) {
       printf("the run ended\n");
@@ -141,11 +141,11 @@ static const uint8_t whole_case[] = {
 };
 
 int main(void) {
-  print_answer("an answer of one word", mk_start(table, MK_TABLE_WORDS, board, sizeof board / sizeof *board, out, 1));
-  print_answer("start", mk_start(table, MK_TABLE_WORDS, board, sizeof board / sizeof *board, out, MK_ANSWER_WORDS));
+  print_answer("an answer of one word", mk_table_start(table, MK_TABLE_WORDS, board, sizeof board / sizeof *board, out, 1));
+  print_answer("start", mk_table_start(table, MK_TABLE_WORDS, board, sizeof board / sizeof *board, out, MK_ANSWER_WORDS));
   incident();
   each_other_step();
-  printf("the table is %swell formed\n", mk_table_well_formed(table, MK_TABLE_WORDS) ? "" : "not ");
+  printf("the table is %swell formed\n", mk_table_is_well_formed(table, MK_TABLE_WORDS) ? "" : "not ");
   replay(whole_case, sizeof whole_case);
   return 0;
 }

@@ -1,14 +1,23 @@
 /* The layer, for C and C++: its steps and its run over a trace, in the static library that `rt staticlib host` writes
- * (target/staticlib/libhost.a, x86-64). Each is proved for any numbers and any contents and lengths; crates/host/src/lib.rt has the
- * contracts.
+ * (target/staticlib/libhost.a, x86-64; installed, libmakvluria.a). Each is proved for any numbers and any contents and lengths;
+ * crates/host/src/lib.rt has the contracts. docs/LINKING.md says the rest that a kernel has to know.
  *
- * A slice is a pointer and its number of elements, in that order. What a C caller owes, since nothing can check it here:
- *  - a pointer is not null, is aligned, and reaches that many elements, also where there are none (then nothing is read or written);
- *  - a slice that is not const overlaps no other slice of the same call;
- *  - nothing else reads or writes a slice until the call returns.
+ * A host calls the static inline functions below, each over an export of the library. A slice is a pointer and its number of elements, in
+ * that order. What a C caller owes, since nothing can check it here:
+ *  - a pointer is aligned and reaches that many elements. With length 0 it may be anything, null too: the slice is empty, and nothing is
+ *    read or written through it. A table, an image or a board of length 0 is then refused like any other of a wrong length;
+ *  - a slice that is not const overlaps no other slice of the same call: the library is proved for one that is the only way to its
+ *    elements. Const slices may overlap, or be the same: both images of a fetch, or the trace and the flash of a run;
+ *  - until the call returns nothing else writes a slice, and nothing else reads one that is not const.
  *
  * A step writes its answer into the first MK_ANSWER_WORDS words of out, a run how far it came into the first MK_RUN_WORDS, and it returns
- * true. Where out is shorter nothing is done and nothing changes: it returns false. */
+ * true. Where out is shorter nothing is done and nothing changes: it returns false.
+ *
+ * What a call costs: every step but start checks the whole lent table, each time, and that is most of its time. A run over a trace checks
+ * it once, where it is taken up again; from the board on it makes the table itself, and checks none. docs/FIGURES.md has the times.
+ *
+ * What the library needs: memcpy and memset, a stack that is aligned as the System V ABI says, and nothing else; it keeps nothing between
+ * calls but what is in the lent slices. It uses SSE registers, and the red zone below the stack pointer. */
 #ifndef MAKVLURIA_H
 #define MAKVLURIA_H
 
@@ -112,12 +121,6 @@ typedef enum {
 } statuscode_t;
 #endif
 
-/* Whether the words are a table: the image of a state with a good board. */
-bool mk_table_well_formed(const uint32_t *table, size_t table_words);
-
-/* Makes the table that of the fresh state of a board. */
-bool mk_start(uint32_t *table, size_t table_words, const uint32_t *board, size_t board_words, uint32_t *out, size_t out_words);
-
 /* A process's index, and a driver's number: two types, so that neither can be passed for the other. */
 typedef struct {
   uint32_t index;
@@ -127,43 +130,84 @@ typedef struct {
   uint32_t number;
 } mk_driver_t;
 
-/* The exports of the steps that name a process or a driver, which are plain numbers in them. A host calls the functions below, which take
- * the two types and pass the numbers on. */
+/* The exports. A process and a driver are plain numbers in them, and a pointer is never null. A host calls the functions below, which take
+ * the two types and empty slices as they come. */
+#ifdef __GNUC__
+#define MK_NEVER_NULL __attribute__((nonnull))
+#else
+#define MK_NEVER_NULL
+#endif
+bool mk_table_well_formed(const uint32_t *table, size_t table_words) MK_NEVER_NULL;
+bool mk_start(uint32_t *table, size_t table_words, const uint32_t *board, size_t board_words, uint32_t *out,
+              size_t out_words) MK_NEVER_NULL;
 bool mk_call(uint32_t *table, size_t table_words, uint8_t *memory, size_t memory_bytes, uint32_t process, uint8_t class_number,
-             uint32_t r0, uint32_t r1, uint32_t r2, uint32_t r3, uint32_t *out, size_t out_words);
+             uint32_t r0, uint32_t r1, uint32_t r2, uint32_t r3, uint32_t *out, size_t out_words) MK_NEVER_NULL;
 bool mk_event(uint32_t *table, size_t table_words, uint32_t process, uint32_t driver, uint32_t slot, uint32_t argument0,
-              uint32_t argument1, uint32_t argument2, uint32_t *out, size_t out_words);
-bool mk_resume(uint32_t *table, size_t table_words, uint32_t process, uint32_t *out, size_t out_words);
+              uint32_t argument1, uint32_t argument2, uint32_t *out, size_t out_words) MK_NEVER_NULL;
+bool mk_resume(uint32_t *table, size_t table_words, uint32_t process, uint32_t *out, size_t out_words) MK_NEVER_NULL;
 bool mk_deposit(const uint32_t *table, size_t table_words, uint8_t *memory, size_t memory_bytes, uint32_t process, uint32_t driver,
-                uint32_t slot, uint32_t offset, const uint8_t *bytes, size_t bytes_length, uint32_t *out, size_t out_words);
+                uint32_t slot, uint32_t offset, const uint8_t *bytes, size_t bytes_length, uint32_t *out, size_t out_words) MK_NEVER_NULL;
 bool mk_fetch(const uint32_t *table, size_t table_words, const uint8_t *memory, size_t memory_bytes, const uint8_t *flash,
               size_t flash_bytes, uint32_t process, uint32_t driver, uint32_t slot, uint32_t offset, uint32_t length, uint32_t *out,
-              size_t out_words);
-bool mk_latch(uint32_t *table, size_t table_words, uint32_t driver, int32_t peak, uint32_t *out, size_t out_words);
+              size_t out_words) MK_NEVER_NULL;
+bool mk_latch(uint32_t *table, size_t table_words, uint32_t driver, int32_t peak, uint32_t *out, size_t out_words) MK_NEVER_NULL;
+bool mk_replay(const uint8_t *trace, size_t trace_bytes, size_t at, uint32_t *table, size_t table_words, uint8_t *memory,
+               size_t memory_bytes, const uint8_t *flash, size_t flash_bytes, uint8_t *lines, size_t lines_bytes, uint64_t *out,
+               size_t out_words) MK_NEVER_NULL;
+#undef MK_NEVER_NULL
+
+/* Where an empty slice points to, whatever its own pointer is. With any other length the pointer goes on as it is: a null one is a fault
+ * of the caller's, and shows as one. */
+union mk_empty {
+  uint8_t byte;
+  uint32_t word;
+  uint64_t number;
+};
+
+/* Whether the words are a table: the image of a state with a good board. */
+static inline bool mk_table_is_well_formed(const uint32_t *table, size_t table_words) {
+  union mk_empty empty = {0};
+  return mk_table_well_formed(table_words ? table : &empty.word, table_words);
+}
+
+/* Makes the table that of the fresh state of a board. */
+static inline bool mk_table_start(uint32_t *table, size_t table_words, const uint32_t *board, size_t board_words, uint32_t *out,
+                                  size_t out_words) {
+  union mk_empty empty = {0};
+  return mk_start(table_words ? table : &empty.word, table_words, board_words ? board : &empty.word, board_words,
+                  out_words ? out : &empty.word, out_words);
+}
 
 /* A call of a process: its class, and its four registers. */
 static inline bool mk_process_call(uint32_t *table, size_t table_words, uint8_t *memory, size_t memory_bytes, mk_process_t process,
                                    uint8_t class_number, uint32_t r0, uint32_t r1, uint32_t r2, uint32_t r3, uint32_t *out,
                                    size_t out_words) {
-  return mk_call(table, table_words, memory, memory_bytes, process.index, class_number, r0, r1, r2, r3, out, out_words);
+  union mk_empty empty = {0};
+  return mk_call(table_words ? table : &empty.word, table_words, memory_bytes ? memory : &empty.byte, memory_bytes, process.index,
+                 class_number, r0, r1, r2, r3, out_words ? out : &empty.word, out_words);
 }
 
 /* A driver's event for a process's subscribe slot, with three arguments. */
 static inline bool mk_driver_event(uint32_t *table, size_t table_words, mk_process_t process, mk_driver_t driver, uint32_t slot,
                                    uint32_t argument0, uint32_t argument1, uint32_t argument2, uint32_t *out, size_t out_words) {
-  return mk_event(table, table_words, process.index, driver.number, slot, argument0, argument1, argument2, out, out_words);
+  union mk_empty empty = {0};
+  return mk_event(table_words ? table : &empty.word, table_words, process.index, driver.number, slot, argument0, argument1, argument2,
+                  out_words ? out : &empty.word, out_words);
 }
 
 /* A process that waits is asked again. */
 static inline bool mk_process_resume(uint32_t *table, size_t table_words, mk_process_t process, uint32_t *out, size_t out_words) {
-  return mk_resume(table, table_words, process.index, out, out_words);
+  union mk_empty empty = {0};
+  return mk_resume(table_words ? table : &empty.word, table_words, process.index, out_words ? out : &empty.word, out_words);
 }
 
 /* A driver's bytes for a process's read-write buffer, from an offset in it on. */
 static inline bool mk_driver_deposit(const uint32_t *table, size_t table_words, uint8_t *memory, size_t memory_bytes,
                                      mk_process_t process, mk_driver_t driver, uint32_t slot, uint32_t offset, const uint8_t *bytes,
                                      size_t bytes_length, uint32_t *out, size_t out_words) {
-  return mk_deposit(table, table_words, memory, memory_bytes, process.index, driver.number, slot, offset, bytes, bytes_length, out,
+  union mk_empty empty = {0};
+  return mk_deposit(table_words ? table : &empty.word, table_words, memory_bytes ? memory : &empty.byte, memory_bytes, process.index,
+                    driver.number, slot, offset, bytes_length ? bytes : &empty.byte, bytes_length, out_words ? out : &empty.word,
                     out_words);
 }
 
@@ -171,14 +215,17 @@ static inline bool mk_driver_deposit(const uint32_t *table, size_t table_words, 
 static inline bool mk_driver_fetch(const uint32_t *table, size_t table_words, const uint8_t *memory, size_t memory_bytes,
                                    const uint8_t *flash, size_t flash_bytes, mk_process_t process, mk_driver_t driver, uint32_t slot,
                                    uint32_t offset, uint32_t length, uint32_t *out, size_t out_words) {
-  return mk_fetch(table, table_words, memory, memory_bytes, flash, flash_bytes, process.index, driver.number, slot, offset, length, out,
-                  out_words);
+  union mk_empty empty = {0};
+  return mk_fetch(table_words ? table : &empty.word, table_words, memory_bytes ? memory : &empty.byte, memory_bytes,
+                  flash_bytes ? flash : &empty.byte, flash_bytes, process.index, driver.number, slot, offset, length,
+                  out_words ? out : &empty.word, out_words);
 }
 
 /* A shared driver's value: a signed peak. */
 static inline bool mk_driver_latch(uint32_t *table, size_t table_words, mk_driver_t driver, int32_t peak, uint32_t *out,
                                    size_t out_words) {
-  return mk_latch(table, table_words, driver.number, peak, out, out_words);
+  union mk_empty empty = {0};
+  return mk_latch(table_words ? table : &empty.word, table_words, driver.number, peak, out_words ? out : &empty.word, out_words);
 }
 
 /* Whether a run has ended, out[0]. After it: the place in the trace to go on from, 0 where it has, and the bytes written to lines. */
@@ -193,9 +240,14 @@ enum mk_run { MK_ENDED = 0, MK_PAUSED = 1 };
  *
  * A table or an image that does not fit is refused by the lines, X 2 or X 1, and the run goes on. A board that is not good (X 13) or a
  * broken record (B) ends it. */
-bool mk_replay(const uint8_t *trace, size_t trace_bytes, size_t at, uint32_t *table, size_t table_words, uint8_t *memory,
-               size_t memory_bytes, const uint8_t *flash, size_t flash_bytes, uint8_t *lines, size_t lines_bytes, uint64_t *out,
-               size_t out_words);
+static inline bool mk_trace_replay(const uint8_t *trace, size_t trace_bytes, size_t at, uint32_t *table, size_t table_words,
+                                   uint8_t *memory, size_t memory_bytes, const uint8_t *flash, size_t flash_bytes, uint8_t *lines,
+                                   size_t lines_bytes, uint64_t *out, size_t out_words) {
+  union mk_empty empty = {0};
+  return mk_replay(trace_bytes ? trace : &empty.byte, trace_bytes, at, table_words ? table : &empty.word, table_words,
+                   memory_bytes ? memory : &empty.byte, memory_bytes, flash_bytes ? flash : &empty.byte, flash_bytes,
+                   lines_bytes ? lines : &empty.byte, lines_bytes, out_words ? out : &empty.number, out_words);
+}
 
 #ifdef __cplusplus
 }
