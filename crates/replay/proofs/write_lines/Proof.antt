@@ -20,9 +20,9 @@ array-share-prefix-lines-2 c =
     let k = w .before .before .before .before .before .before .before in
     subst (λ n. w .next .given .0 .1 .0 ≤ n) (sym (k .replay .kept .1 .1 .1 .1 .1 .0)) (paused-within _ _ _ _ _ _ _ (k .replay .ensures) (w .next .given .1) (k .replay .kept .1 .1 .1 .1 .1 .0))
 
-returns-2 : tie.Need-returns-2
-returns-2 c =
-    let w = c .before .before .before in
+returns-3 : tie.Need-returns-3
+returns-3 c =
+    let w = c .before .before .before .before in
     let k = w .before .before .before .before .before .before .before in
     inr (paused-further _ _ _ _ _ _ _ (k .replay .ensures) (w .next .given .1) (search needs), paused-in-trace _ _ _ _ _ _ _ (k .replay .ensures) (w .next .given .1))
 
@@ -45,4 +45,7 @@ write-lines-spec =
     (λ c. inl refl)
     (λ c. search needs)
     (λ c. search needs)
-    returns-2)
+    (λ c. inl refl)
+    (λ c. search needs)
+    (λ c. search needs)
+    returns-3)
