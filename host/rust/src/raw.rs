@@ -4,6 +4,7 @@
 //! Every call here is safe: the library is proved for any numbers and slices, Rust's slices are valid, and those that are lent to be
 //! written are borrowed apart from all others.
 #![allow(clippy::too_many_arguments)] // the exports have these
+#![allow(missing_docs)] // the functions of the same names in the crate say what they do
 
 use crate::{Driver, Process};
 

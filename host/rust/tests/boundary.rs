@@ -4,7 +4,7 @@ mod run;
 
 use makvluria::{
     call, deposit, event, fetch, is_well_formed, latch, raw, replay, replay_all, resume, start,
-    Answer, Driver, Image, Process, Progress, IMAGE_BYTES, TABLE_WORDS,
+    Answer, Class, Driver, Image, Process, Progress, Refusal, IMAGE_BYTES, TABLE_WORDS,
 };
 
 /// The board of document 01's cases: two processes, an unshared driver 1 and a shared driver 0x90000.
@@ -21,14 +21,6 @@ const FIRST: Process = Process(0);
 const SECOND: Process = Process(1);
 const UNSHARED: Driver = Driver(1);
 const SHARED: Driver = Driver(0x9_0000);
-
-const YIELD: u8 = 0;
-const SUBSCRIBE: u8 = 1;
-const COMMAND: u8 = 2;
-const READ_WRITE: u8 = 3;
-const READ_ONLY: u8 = 4;
-const MEMOP: u8 = 5;
-const EXIT: u8 = 6;
 
 /// What the host owns.
 #[derive(Clone, PartialEq)]
@@ -52,14 +44,14 @@ impl Host {
     /// One with a pending upcall, a read-write and a read-only buffer of process 0, so that every step has work to do.
     fn busy() -> Host {
         let mut host = Host::fresh();
-        host.registers(SUBSCRIBE, [UNSHARED.0, 0, 0x0004_0010, 7], [130, 0, 0, 0]);
+        host.registers(Class::SUBSCRIBE, [UNSHARED.0, 0, 0x0004_0010, 7], [130, 0, 0, 0]);
         assert_eq!(event(&mut host.table, FIRST, UNSHARED, 0, [1, 2, 3]), Answer::Taken);
-        host.registers(READ_WRITE, [UNSHARED.0, 0, 0x2000_0100, 16], [130, 0, 0, 0]);
-        host.registers(READ_ONLY, [UNSHARED.0, 0, 0x0004_3FF0, 16], [130, 0, 0, 0]);
+        host.registers(Class::READ_WRITE_ALLOW, [UNSHARED.0, 0, 0x2000_0100, 16], [130, 0, 0, 0]);
+        host.registers(Class::READ_ONLY_ALLOW, [UNSHARED.0, 0, 0x0004_3FF0, 16], [130, 0, 0, 0]);
         host
     }
 
-    fn call(&mut self, process: Process, class: u8, registers: [u32; 4]) -> Answer {
+    fn call(&mut self, process: Process, class: Class, registers: [u32; 4]) -> Answer {
         call(&mut self.table, &mut self.memory, process, class, registers)
     }
 
@@ -74,29 +66,20 @@ impl Host {
         String::from_utf8(lines).unwrap()
     }
 
-    fn registers(&mut self, class: u8, registers: [u32; 4], answer: [u32; 4]) {
+    fn registers(&mut self, class: Class, registers: [u32; 4], answer: [u32; 4]) {
         assert_eq!(self.call(FIRST, class, registers), Answer::Registers(answer));
     }
 
-    /// Every step on what is here, with what it answers; the steps that take no image are apart.
-    fn all_steps(&mut self, process: Process) -> ([Answer; 3], [Answer; 2]) {
-        let with_images = [
-            self.call(process, MEMOP, [2, 0, 0, 0]),
+    /// Every step of a process on what is here, with what it answers.
+    fn all_steps(&mut self, process: Process) -> [Answer; 5] {
+        [
+            self.call(process, Class::MEMOP, [2, 0, 0, 0]),
             deposit(&self.table, &mut self.memory, process, UNSHARED, 0, 0, &[9]),
             fetch(&self.table, &self.memory, &self.flash, process, UNSHARED, 0, 0, 1),
-        ];
-        (
-            with_images,
-            [
-                event(&mut self.table, process, UNSHARED, 0, [0; 3]),
-                resume(&mut self.table, process),
-            ],
-        )
+            event(&mut self.table, process, UNSHARED, 0, [0; 3]),
+            resume(&mut self.table, process),
+        ]
     }
-}
-
-fn no_part(number: u32) -> Answer {
-    Answer::Fetched { number, image: Image::Memory, place: 0, length: 0 }
 }
 
 #[test]
@@ -107,7 +90,7 @@ fn a_short_answer_slice_stops_every_step() {
         let mut words = [77; 6];
         let out = &mut words[..room];
         assert!(!raw::start(&mut table, &BOARD, out));
-        assert!(!raw::call(&mut table, &mut memory, FIRST, YIELD, [1, 0, 0, 0], out));
+        assert!(!raw::call(&mut table, &mut memory, FIRST, Class::YIELD.0, [1, 0, 0, 0], out));
         assert!(!raw::event(&mut table, FIRST, UNSHARED, 0, [1, 2, 3], out));
         assert!(!raw::resume(&mut table, FIRST, out));
         assert!(!raw::deposit(&table, &mut memory, FIRST, UNSHARED, 0, 0, b"bytes", out));
@@ -133,22 +116,28 @@ fn images_of_another_length_are_refused_with_1() {
         host.memory = vec![5; length];
         let before = host.clone();
         let table = vec![0; 3]; // row 1 stands before row 2
-        assert_eq!(host.call(FIRST, YIELD, [0; 4]), Answer::Refused(1));
+        assert_eq!(host.call(FIRST, Class::YIELD, [0; 4]), Answer::Refused(Refusal::NoImage));
         assert_eq!(
-            call(&mut table.clone(), &mut host.memory, Process(9), 9, [0; 4]),
-            Answer::Refused(1)
+            call(&mut table.clone(), &mut host.memory, Process(9), Class(9), [0; 4]),
+            Answer::Refused(Refusal::NoImage)
         );
         assert_eq!(
             deposit(&host.table, &mut host.memory, FIRST, UNSHARED, 0, 0, b"x"),
-            Answer::Refused(1)
+            Answer::Refused(Refusal::NoImage)
         );
         assert_eq!(
             deposit(&table, &mut host.memory, FIRST, UNSHARED, 0, 0, b"x"),
-            Answer::Refused(1)
+            Answer::Refused(Refusal::NoImage)
         );
         let whole = vec![0; IMAGE_BYTES];
-        assert_eq!(fetch(&host.table, &host.memory, &whole, FIRST, UNSHARED, 0, 0, 1), no_part(1));
-        assert_eq!(fetch(&host.table, &whole, &host.memory, FIRST, UNSHARED, 0, 0, 1), no_part(1));
+        assert_eq!(
+            fetch(&host.table, &host.memory, &whole, FIRST, UNSHARED, 0, 0, 1),
+            Answer::Refused(Refusal::NoImage)
+        );
+        assert_eq!(
+            fetch(&host.table, &whole, &host.memory, FIRST, UNSHARED, 0, 0, 1),
+            Answer::Refused(Refusal::NoImage)
+        );
         assert!(before == host);
     }
 }
@@ -159,13 +148,10 @@ fn tables_of_another_length_are_refused_with_2() {
         let mut host = Host::busy();
         host.table.resize(length, 0);
         let before = host.clone();
-        assert_eq!(start(&mut host.table, &BOARD), Answer::Refused(2));
-        assert_eq!(start(&mut host.table, &[]), Answer::Refused(2));
-        assert_eq!(
-            host.all_steps(FIRST),
-            ([Answer::Refused(2), Answer::Refused(2), no_part(2)], [Answer::Refused(2); 2])
-        );
-        assert_eq!(latch(&mut host.table, SHARED, 1), Answer::Refused(2));
+        assert_eq!(start(&mut host.table, &BOARD), Answer::Refused(Refusal::NoTable));
+        assert_eq!(start(&mut host.table, &[]), Answer::Refused(Refusal::NoTable));
+        assert_eq!(host.all_steps(FIRST), [Answer::Refused(Refusal::NoTable); 5]);
+        assert_eq!(latch(&mut host.table, SHARED, 1), Answer::Refused(Refusal::NoTable));
         assert!(before == host);
     }
 }
@@ -183,12 +169,12 @@ fn a_changed_word_is_refused_with_2_or_makes_another_table() {
             }
             refused += 1;
             let before = host.clone();
+            assert_eq!(host.all_steps(FIRST), [Answer::Refused(Refusal::NoTable); 5], "word {at}");
             assert_eq!(
-                host.all_steps(FIRST),
-                ([Answer::Refused(2), Answer::Refused(2), no_part(2)], [Answer::Refused(2); 2]),
+                latch(&mut host.table, SHARED, 1),
+                Answer::Refused(Refusal::NoTable),
                 "word {at}"
             );
-            assert_eq!(latch(&mut host.table, SHARED, 1), Answer::Refused(2), "word {at}");
             assert!(before == host, "word {at}");
         }
     }
@@ -200,10 +186,7 @@ fn no_such_process_is_refused_with_3() {
     let mut host = Host::busy();
     let before = host.clone();
     for process in [2, 8, u32::MAX].map(Process) {
-        assert_eq!(
-            host.all_steps(process),
-            ([Answer::Refused(3), Answer::Refused(3), no_part(3)], [Answer::Refused(3); 2])
-        );
+        assert_eq!(host.all_steps(process), [Answer::Refused(Refusal::NoProcess); 5]);
     }
     assert!(before == host);
 }
@@ -219,7 +202,7 @@ fn boards_that_are_not_good_are_refused_with_13() {
     let longer = [&BOARD[..], &[0]].concat();
     for board in [&[][..], &BOARD[..25], &longer, &overlapping, &nobody, &too_many] {
         let mut table = vec![3; TABLE_WORDS];
-        assert_eq!(start(&mut table, board), Answer::Refused(13));
+        assert_eq!(start(&mut table, board), Answer::Refused(Refusal::NoBoard));
         assert_eq!(table, [3; TABLE_WORDS]);
     }
 }
@@ -227,38 +210,53 @@ fn boards_that_are_not_good_are_refused_with_13() {
 #[test]
 fn the_other_refusals_keep_their_numbers() {
     let mut host = Host::busy();
-    assert_eq!(resume(&mut host.table, FIRST), Answer::Refused(6));
-    assert_eq!(event(&mut host.table, FIRST, Driver(5), 0, [0; 3]), Answer::Refused(7));
-    assert_eq!(event(&mut host.table, FIRST, UNSHARED, 2, [0; 3]), Answer::Refused(8));
+    assert_eq!(resume(&mut host.table, FIRST), Answer::Refused(Refusal::ProcessRuns));
+    assert_eq!(
+        event(&mut host.table, FIRST, Driver(5), 0, [0; 3]),
+        Answer::Refused(Refusal::NoDriver)
+    );
+    assert_eq!(
+        event(&mut host.table, FIRST, UNSHARED, 2, [0; 3]),
+        Answer::Refused(Refusal::NoSlot)
+    );
     assert_eq!(
         deposit(&host.table, &mut host.memory, FIRST, UNSHARED, 0, u32::MAX, b"x"),
-        Answer::Refused(9)
+        Answer::Refused(Refusal::PastTheBuffer)
     );
     assert_eq!(
         fetch(&host.table, &host.memory, &host.flash, FIRST, UNSHARED, 0, 16, 1),
-        no_part(9)
+        Answer::Refused(Refusal::PastTheBuffer)
     );
-    assert_eq!(event(&mut host.table, FIRST, UNSHARED, 1, [0; 3]), Answer::Refused(11));
+    assert_eq!(
+        event(&mut host.table, FIRST, UNSHARED, 1, [0; 3]),
+        Answer::Refused(Refusal::NullUpcall)
+    );
     for _ in 1..16 {
         assert_eq!(event(&mut host.table, FIRST, UNSHARED, 0, [0; 3]), Answer::Taken);
     }
-    assert_eq!(event(&mut host.table, FIRST, UNSHARED, 0, [0; 3]), Answer::Refused(10));
-    assert_eq!(latch(&mut host.table, UNSHARED, 1), Answer::Refused(12));
-    assert_eq!(host.call(SECOND, YIELD, [1, 0, 0, 0]), Answer::Waiting);
-    assert_eq!(host.call(SECOND, YIELD, [1, 0, 0, 0]), Answer::Refused(5));
-    assert_eq!(host.call(FIRST, EXIT, [0, 0, 0, 0]), Answer::Exited(0));
-    assert_eq!(host.call(FIRST, YIELD, [0; 4]), Answer::Refused(4));
+    assert_eq!(
+        event(&mut host.table, FIRST, UNSHARED, 0, [0; 3]),
+        Answer::Refused(Refusal::QueueFull)
+    );
+    assert_eq!(latch(&mut host.table, UNSHARED, 1), Answer::Refused(Refusal::NotShared));
+    assert_eq!(host.call(SECOND, Class::YIELD, [1, 0, 0, 0]), Answer::Waiting);
+    assert_eq!(
+        host.call(SECOND, Class::YIELD, [1, 0, 0, 0]),
+        Answer::Refused(Refusal::ProcessWaits)
+    );
+    assert_eq!(host.call(FIRST, Class::EXIT, [0, 0, 0, 0]), Answer::Exited(0));
+    assert_eq!(host.call(FIRST, Class::YIELD, [0; 4]), Answer::Refused(Refusal::ProcessExited));
 }
 
 #[test]
 fn upcalls_come_and_are_waited_for() {
     let mut host = Host::busy();
     let first = Answer::Delivered { pointer: 0x0004_0010, registers: [1, 2, 3, 7] };
-    assert_eq!(host.call(FIRST, YIELD, [0, 0x2000_0000, 0, 0]), first);
+    assert_eq!(host.call(FIRST, Class::YIELD, [0, 0x2000_0000, 0, 0]), first);
     assert_eq!(host.memory[0], 1);
-    assert_eq!(host.call(FIRST, YIELD, [0, 0x2000_0000, 0, 0]), Answer::Nothing);
+    assert_eq!(host.call(FIRST, Class::YIELD, [0, 0x2000_0000, 0, 0]), Answer::Nothing);
     assert_eq!(host.memory[0], 0);
-    assert_eq!(host.call(FIRST, YIELD, [1, 0, 0, 0]), Answer::Waiting);
+    assert_eq!(host.call(FIRST, Class::YIELD, [1, 0, 0, 0]), Answer::Waiting);
     assert_eq!(resume(&mut host.table, FIRST), Answer::Waiting);
     assert_eq!(event(&mut host.table, FIRST, UNSHARED, 0, [4, 5, u32::MAX]), Answer::Taken);
     let second = Answer::Delivered { pointer: 0x0004_0010, registers: [4, 5, u32::MAX, 7] };
@@ -285,21 +283,25 @@ fn a_fetch_says_where_its_part_lies() {
     let mut host = Host::busy();
     host.flash[0x3FF4..0x3FF7].copy_from_slice(b"map");
     let found = fetch(&host.table, &host.memory, &host.flash, FIRST, UNSHARED, 0, 4, 3);
-    assert_eq!(found, Answer::Fetched { number: 0, image: Image::Flash, place: 0x3FF4, length: 3 });
+    assert_eq!(found, Answer::Fetched { image: Image::Flash, place: 0x3FF4, length: 3 });
     assert_eq!(found.part(&host.memory, &host.flash), b"map");
 
     assert_eq!(
         fetch(&host.table, &host.memory, &host.flash, FIRST, UNSHARED, 0, 16, 0),
-        no_part(0)
+        Answer::Fetched { image: Image::Memory, place: 0, length: 0 }
     );
 
-    host.registers(READ_ONLY, [UNSHARED.0, 0, 0x2000_0100, 16], [130, 0x0004_3FF0, 16, 0]);
+    host.registers(
+        Class::READ_ONLY_ALLOW,
+        [UNSHARED.0, 0, 0x2000_0100, 16],
+        [130, 0x0004_3FF0, 16, 0],
+    );
     assert_eq!(
         deposit(&host.table, &mut host.memory, FIRST, UNSHARED, 0, 15, b"!"),
         Answer::Deposited
     );
     let found = fetch(&host.table, &host.memory, &host.flash, FIRST, UNSHARED, 0, 15, 1);
-    assert_eq!(found, Answer::Fetched { number: 0, image: Image::Memory, place: 0x10F, length: 1 });
+    assert_eq!(found, Answer::Fetched { image: Image::Memory, place: 0x10F, length: 1 });
     assert_eq!(found.part(&host.memory, &host.flash), b"!");
 }
 
@@ -308,19 +310,25 @@ fn a_peak_below_zero_is_a_value() {
     let mut host = Host::fresh();
     for peak in [-1, i32::MIN, i32::MAX, 0] {
         assert_eq!(latch(&mut host.table, SHARED, peak), Answer::Latched);
-        host.registers(COMMAND, [SHARED.0, 1, 0, 0], [128, 0, 0, 0]);
-        host.registers(COMMAND, [SHARED.0, 3, 0, 0], [129, peak as u32, 0, 0]);
+        host.registers(Class::COMMAND, [SHARED.0, 1, 0, 0], [128, 0, 0, 0]);
+        host.registers(Class::COMMAND, [SHARED.0, 3, 0, 0], [129, peak as u32, 0, 0]);
     }
-    assert_eq!(host.call(SECOND, COMMAND, [SHARED.0, 3, 0, 0]), Answer::Registers([0, 5, 0, 0]));
+    assert_eq!(
+        host.call(SECOND, Class::COMMAND, [SHARED.0, 3, 0, 0]),
+        Answer::Registers([0, 5, 0, 0])
+    );
 }
 
 #[test]
 fn exits_tell_their_codes() {
     let mut host = Host::busy();
-    assert_eq!(host.call(FIRST, EXIT, [1, 0xFFFF_FFFE, 0, 0]), Answer::Restarted(0xFFFF_FFFE));
-    assert_eq!(host.call(FIRST, EXIT, [0, 17, 0, 0]), Answer::Exited(17));
+    assert_eq!(
+        host.call(FIRST, Class::EXIT, [1, 0xFFFF_FFFE, 0, 0]),
+        Answer::Restarted(0xFFFF_FFFE)
+    );
+    assert_eq!(host.call(FIRST, Class::EXIT, [0, 17, 0, 0]), Answer::Exited(17));
     let mut fresh = Host::fresh();
-    assert_eq!(fresh.call(FIRST, EXIT, [0, 17, 0, 0]), Answer::Exited(17));
+    assert_eq!(fresh.call(FIRST, Class::EXIT, [0, 17, 0, 0]), Answer::Exited(17));
     assert!(fresh == host);
 }
 
@@ -328,12 +336,37 @@ fn exits_tell_their_codes() {
 fn the_wrapping_buffer_is_refused() {
     let mut host = Host::fresh();
     let before = host.clone();
-    host.registers(READ_WRITE, [UNSHARED.0, 0, 0xFFFF_FFFF, 2], [2, 6, 0xFFFF_FFFF, 2]);
+    host.registers(
+        Class::READ_WRITE_ALLOW,
+        [UNSHARED.0, 0, 0xFFFF_FFFF, 2],
+        [2, 6, 0xFFFF_FFFF, 2],
+    );
     assert!(before == host);
 }
 
 #[test]
+fn a_refused_fetch_is_told_with_its_number_and_the_empty_part() {
+    let host = Host::busy();
+    let mut words = [77; 6];
+    let Host { table, memory, flash } = &host;
+    assert!(raw::fetch(table, memory, flash, FIRST, UNSHARED, 0, 16, 1, &mut words));
+    assert_eq!(words, [11, 9, 0, 0, 0, 0]);
+    assert_eq!(Answer::decode(words), Some(Answer::Refused(Refusal::PastTheBuffer)));
+    assert_eq!(Answer::Refused(Refusal::PastTheBuffer).part(memory, flash), b"");
+}
+
+#[test]
 fn words_that_are_no_answer_are_not_read() {
-    assert_eq!(Answer::decode([12, 0, 0, 0, 0, 0]), None);
-    assert_eq!(Answer::decode([11, 0, 2, 0, 0, 0]), None);
+    for words in [
+        [12, 0, 0, 0, 0, 0],
+        [0, 0, 0, 0, 0, 0],
+        [0, 14, 0, 0, 0, 0],
+        [11, 0, 2, 0, 0, 0],
+        [11, 14, 0, 0, 0, 0],
+        [11, 9, 1, 0, 0, 0],
+        [11, 9, 0, 1, 0, 0],
+        [11, 9, 0, 0, 1, 0],
+    ] {
+        assert_eq!(Answer::decode(words), None, "{words:?}");
+    }
 }

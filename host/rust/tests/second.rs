@@ -7,7 +7,7 @@ use std::path::{Path, PathBuf};
 use std::process::{Command, Stdio};
 use std::{env, fs, thread};
 
-use makvluria::{Answer, Driver, Process, Progress, IMAGE_BYTES, LINES_BYTES, TABLE_WORDS};
+use makvluria::{Answer, Class, Driver, Process, Progress, IMAGE_BYTES, LINES_BYTES, TABLE_WORDS};
 use second::board::{DriverNumber, ProcessIndex};
 use second::generate::corpus::{every_cut, every_one_byte_change, small_corpus, WHOLE_CASE};
 use second::generate::generate_mixed;
@@ -59,7 +59,7 @@ impl Host {
         let Host { table, memory, flash } = self;
         match step {
             Step::Call { process, class, registers } => {
-                makvluria::call(table, memory, Process(process.0), class, registers)
+                makvluria::call(table, memory, Process(process.0), Class(class), registers)
             }
             Step::Event { process, driver, slot, arguments } => {
                 makvluria::event(table, Process(process.0), Driver(driver.0), slot, arguments)
@@ -90,7 +90,7 @@ impl Host {
 
     fn write_answer(&self, out: &mut Vec<u8>, answer: Answer) {
         match answer {
-            Answer::Refused(number) => write_line(out, 'X', &[number]),
+            Answer::Refused(refusal) => write_line(out, 'X', &[refusal.number()]),
             Answer::Registers(registers) => write_line(out, 'A', &registers),
             Answer::Delivered { pointer, registers: [r0, r1, r2, r3] } => {
                 write_line(out, 'U', &[pointer, r0, r1, r2, r3])
@@ -103,13 +103,12 @@ impl Host {
             Answer::Started => {}
             Answer::Exited(code) => write_line(out, 'E', &[code]),
             Answer::Restarted(code) => write_line(out, 'R', &[code]),
-            Answer::Fetched { number: 0, length, .. } => {
+            Answer::Fetched { length, .. } => {
                 let part = answer.part(&self.memory, &self.flash);
                 let bytes = part.iter().map(|&byte| u32::from(byte));
                 let numbers: Vec<u32> = std::iter::once(length).chain(bytes).collect();
                 write_line(out, 'F', &numbers)
             }
-            Answer::Fetched { number, .. } => write_line(out, 'X', &[number]),
         }
     }
 }

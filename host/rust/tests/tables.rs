@@ -1,7 +1,7 @@
 //! The proved check of a table beside the second program's, which is its own reading of docs/LAYOUT.md: every word of tables that steps
 //! reach, tried with other values. The tables are reached by steps of the library, and are the second program's states written as words.
 
-use makvluria::{Answer, Driver, Process, IMAGE_BYTES, TABLE_WORDS};
+use makvluria::{Answer, Class, Driver, Process, IMAGE_BYTES, TABLE_WORDS};
 use second::generate::tables::reached;
 use second::generate::{generate, Kind};
 use second::state::Machine;
@@ -46,7 +46,7 @@ const fn counts(taken: usize, refused: usize) -> Counts {
 fn step(table: &mut [u32], memory: &mut [u8], step: Step) {
     match step {
         Step::Call { process, class, registers } => {
-            makvluria::call(table, memory, Process(process.0), class, registers)
+            makvluria::call(table, memory, Process(process.0), Class(class), registers)
         }
         Step::Event { process, driver, slot, arguments } => {
             makvluria::event(table, Process(process.0), Driver(driver.0), slot, arguments)

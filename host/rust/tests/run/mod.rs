@@ -1,12 +1,12 @@
 //! What a host may lend to the run over a trace: anything, and for its lines a buffer of any length.
 
-use makvluria::{is_well_formed, raw, Progress, IMAGE_BYTES, LINES_BYTES, TABLE_WORDS};
+use makvluria::{is_well_formed, raw, Class, Progress, IMAGE_BYTES, LINES_BYTES, TABLE_WORDS};
 use second::board::{DriverNumber, ProcessIndex};
 use second::generate::corpus::small_corpus;
 use second::step::Step;
 use second::trace::write_trace;
 
-use super::{Host, BOARD, MEMOP, READ_ONLY, READ_WRITE, SHARED, SUBSCRIBE, UNSHARED, YIELD};
+use super::{Host, BOARD, SHARED, UNSHARED};
 
 /// What a lent byte is before a run, which writes no such one.
 const UNWRITTEN: u8 = 0xA5;
@@ -19,8 +19,8 @@ const fn fetch_room(length: usize) -> usize {
     23 + 4 * length
 }
 
-fn call_step(class: u8, registers: [u32; 4]) -> Step<'static> {
-    Step::Call { process: ProcessIndex(0), class, registers }
+fn call_step(class: Class, registers: [u32; 4]) -> Step<'static> {
+    Step::Call { process: ProcessIndex(0), class: class.0, registers }
 }
 
 fn fetch_step(length: u32) -> Step<'static> {
@@ -32,14 +32,14 @@ fn fetch_step(length: u32) -> Step<'static> {
 fn steps() -> [(Step<'static>, &'static str); 10] {
     let (process, driver, slot) = (ProcessIndex(0), DriverNumber(UNSHARED.0), 0);
     [
-        (call_step(READ_WRITE, [UNSHARED.0, 0, 0x2000_0100, 16]), "A 130 0 0 0\n"),
+        (call_step(Class::READ_WRITE_ALLOW, [UNSHARED.0, 0, 0x2000_0100, 16]), "A 130 0 0 0\n"),
         (Step::Deposit { process, driver, slot, offset: 1, bytes: &[9, 8, 7] }, "D\n"),
-        (call_step(READ_ONLY, [UNSHARED.0, 0, 0x2000_0100, 16]), "A 130 0 0 0\n"),
+        (call_step(Class::READ_ONLY_ALLOW, [UNSHARED.0, 0, 0x2000_0100, 16]), "A 130 0 0 0\n"),
         (fetch_step(4), "F 4 0 9 8 7\n"),
-        (call_step(SUBSCRIBE, [UNSHARED.0, 0, 0x0004_0010, 7]), "A 130 0 0 0\n"),
+        (call_step(Class::SUBSCRIBE, [UNSHARED.0, 0, 0x0004_0010, 7]), "A 130 0 0 0\n"),
         (Step::Event { process, driver, slot, arguments: [1, 2, 3] }, "Q\n"),
-        (call_step(YIELD, [1, 0, 0, 0]), "U 262160 1 2 3 7\n"),
-        (call_step(YIELD, [1, 0, 0, 0]), "W\n"),
+        (call_step(Class::YIELD, [1, 0, 0, 0]), "U 262160 1 2 3 7\n"),
+        (call_step(Class::YIELD, [1, 0, 0, 0]), "W\n"),
         (Step::Resume { process }, "W\n"),
         (Step::Latch { driver: DriverNumber(SHARED.0), peak: -5 }, "L\n"),
     ]
@@ -56,9 +56,9 @@ fn records_at() -> usize {
 
 /// Fetches of so many bytes out of flash, with another line after each.
 fn trace_of_fetches(lengths: &[u32]) -> Vec<u8> {
-    let mut steps = vec![call_step(READ_ONLY, [UNSHARED.0, 0, 0x0004_0000, 0x4000])];
+    let mut steps = vec![call_step(Class::READ_ONLY_ALLOW, [UNSHARED.0, 0, 0x0004_0000, 0x4000])];
     for &length in lengths {
-        steps.extend([fetch_step(length), call_step(MEMOP, [2, 0, 0, 0])]);
+        steps.extend([fetch_step(length), call_step(Class::MEMOP, [2, 0, 0, 0])]);
     }
     write_trace(&BOARD, &steps)
 }
@@ -70,7 +70,7 @@ fn trace_of_whole_images(times: usize) -> Vec<u8> {
         1, 0x2000_0000, 0x2001_0000, 0x2001_0000, 0x2000_0000, 0x0004_0000, 0x0005_0000, 1,
         1, UNSHARED.0, 0, 0, 1, 0,
     ];
-    let mut steps = vec![call_step(READ_ONLY, [UNSHARED.0, 0, 0x0004_0000, 65_536])];
+    let mut steps = vec![call_step(Class::READ_ONLY_ALLOW, [UNSHARED.0, 0, 0x0004_0000, 65_536])];
     steps.extend(vec![fetch_step(65_536); times]);
     write_trace(&board, &steps)
 }
