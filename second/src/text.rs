@@ -6,7 +6,7 @@
 
 mod answer;
 pub mod list;
-mod names;
+pub mod names;
 pub mod parse;
 pub mod record;
 mod value;

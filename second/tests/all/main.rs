@@ -10,6 +10,7 @@ mod incident;
 mod listing;
 mod mistakes;
 mod numbers;
+mod page;
 mod programs;
 mod properties;
 mod readings;
