@@ -1,8 +1,8 @@
+-- Each limit is computed, by itself.
 use native.Mathlib.Omega.{arith}
 use Rattle.types.proofs.limits_tied.Statement.{statement}
 use Rattle.types.proofs.limits_tied.Tie as tie
 
--- each limit is computed
 returns : tie.Need-returns
 returns c = (
   omega arith,
