@@ -4,3 +4,5 @@ pub mod Fetching
 pub mod Replaying
 -- ---- laws of them, for the crates above
 pub mod StatementLaws
+-- ---- that those about one record allow one outcome
+pub mod OneTurn

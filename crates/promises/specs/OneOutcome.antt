@@ -1,6 +1,7 @@
 -- What a contract says by a relation, it says of one outcome: for the same inputs no other answer, and no other words or bytes, meet it. So a wrong answer
--- of an inner function is refuted by its own statement, too. A contract that is an equation needs no more.
-use Prim.Native.Nat.{ℕ, _+_, _^_, _≤_, _<_}
+-- of an inner function is refuted by its own statement, too. A contract that is an equation needs no more; relations with a type that only its crate knows have
+-- their theorem there (`OneReading` in `trace`, `OneTurn` in `layer`).
+use Prim.Native.Nat.{ℕ, _^_, _<_}
 use mathlib.Core.Path.{_≡_, refl, sym, ap, _∙_}
 use mathlib.Core.Bool.{Bool, true, false}
 use mathlib.Core.List.{List, [], _++_}
@@ -12,7 +13,7 @@ use denote.Ref.{RefT}
 use Rattle.definition.specs.Tests.{if_then_else_}
 use Rattle.definition.specs.Limits.{maxBoardWords}
 use Rattle.definition.specs.State.{Process, State, Upcall}
-use Rattle.definition.specs.Answer.{Answer, Part, Image, memory, flash, numberOf}
+use Rattle.definition.specs.Answer.{Answer, Part, numberOf}
 use Rattle.definition.specs.Decide.{Action}
 use Rattle.definition.specs.Image.{processWords, imageOf}
 use Rattle.definition.specs.Trace.{Found, found}
@@ -60,7 +61,7 @@ one-kept f x y = (x .count ∙ sym (y .count), x .words ∙ sym (y .words))
 
 -- ---- a signed change of an address, which is a word
 
-abbrev Word : Moved → Type 0
+abbrev pub Word : Moved → Type 0
 Word (At n) = n < 2 ^ 32
 Word Outside = Unit {0}
 

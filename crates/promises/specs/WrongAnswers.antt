@@ -28,6 +28,7 @@ use Rattle.layer.specs.declared.Progress.the-variants.{Paused}
 use Rattle.layer.specs.Steps.{lent, gave, Makes, MakesAlone, Starts}
 use Rattle.layer.specs.Fetching.{partOf, Lies, Finds, standsAt, IsPart}
 use Rattle.layer.specs.Replaying.{progressBy, Plays}
+use Rattle.layer.specs.StatementLaws.{part-size}
 use Rattle.host.specs.Runs.{progressWords}
 use Rattle.promises.specs.Guarded.{guarded, run-keeps, guarded-keeps, table-step}
 use Rattle.promises.specs.Refuted.{refused-not-started}
@@ -215,7 +216,7 @@ module _ (m f r : RefT (List ℕ)) where
   pub part-elsewhere : (r .ptr ≡ (m .ptr .0, m .ptr .1 + 0xF00) → ⊥) → ¬ IsPart (partOf (readAfter shows)) m f r
   part-elsewhere other p = other (p .place ∙ ap (λ a. standsAt (partOf a) m f) two-read)
 
--- fetch_place, and fetch_answer: another length or place; of the latter another number too
+-- fetch_place, and fetch_answer: another length or place; of the latter another number, too
 pub place-length : (r : Place) → (r .length ≡ 2 → ⊥) → ¬ Lies (partOf (readAfter shows)) r
 place-length r other p = other (p .size ∙ ap (λ a. length (partOf a .bytes)) two-read)
 
@@ -225,6 +226,9 @@ place-elsewhere r other p = other (p .place ∙ ap (λ a. partOf a .place) two-r
 module _ (r : Fetched) where
   pub fetch-refused : (r .number ≡ 0 → ⊥) → ¬ Finds (readAfter shows) (memoryAt shows) (at shows .flash) r
   fetch-refused other p = other (ap numberOf (sym (p .answer) ∙ two-read))
+
+  pub fetch-length : (r .place .length ≡ 2 → ⊥) → ¬ Finds (readAfter shows) (memoryAt shows) (at shows .flash) r
+  fetch-length other p = other (part-size (r .place) _ _ (p .inside) ∙ ap (λ a. length (partOf a .bytes)) (sym (p .answer) ∙ two-read))
 
   pub fetch-elsewhere : (r .place .place ≡ 0xF00 → ⊥) → ¬ Finds (readAfter shows) (memoryAt shows) (at shows .flash) r
   fetch-elsewhere other p = other (ap (λ a. partOf a .place) (sym (p .answer) ∙ two-read))

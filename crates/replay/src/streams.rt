@@ -9,7 +9,7 @@ use libc::STDOUT_FILENO;
 // How often one read or write is tried: another process runs in between, so that a reader or a writer that is there comes in time.
 const TRIES: usize = 10000;
 
-// What standard input had: all of it, so many bytes; more than there is room for; or it could not be read.
+// What standard input had: all of it, so many bytes; as many as there is room for, or more; or it could not be read.
 pub(crate) enum Input {
     Whole(usize),
     Full,

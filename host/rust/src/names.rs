@@ -106,7 +106,7 @@ numbered! {
         NoSlot = 8 "no such slot",
         /// The sum is taken exactly.
         PastTheBuffer = 9 "offset + length exceeds the held size",
-        /// 16 upcalls are queued for the process.
+        /// As many upcalls are queued for the process as there may be.
         QueueFull = 10 "the queue is full",
         /// An event for a slot with the null upcall.
         NullUpcall = 11 "the slot's pointer is 0",

@@ -1,5 +1,7 @@
 //! The owning struct beside the functions over lent slices: the same answers, table and images.
 
+mod steps;
+
 use makvluria::{
     is_well_formed, Answer, Class, Driver, Layer, Process, Progress, Refusal, IMAGE_BYTES,
     LINES_BYTES, TABLE_WORDS,
@@ -24,25 +26,7 @@ impl Lent {
     }
 
     fn step(&mut self, step: Step) -> Answer {
-        let Lent { table, memory, flash } = self;
-        match step {
-            Step::Call { process, class, registers } => {
-                makvluria::call(table, memory, Process(process.0), Class(class), registers)
-            }
-            Step::Event { process, driver, slot, arguments } => {
-                makvluria::event(table, Process(process.0), Driver(driver.0), slot, arguments)
-            }
-            Step::Resume { process } => makvluria::resume(table, Process(process.0)),
-            Step::Deposit { process, driver, slot, offset, bytes } => {
-                let (process, driver) = (Process(process.0), Driver(driver.0));
-                makvluria::deposit(table, memory, process, driver, slot, offset, bytes)
-            }
-            Step::Fetch { process, driver, slot, offset, length } => {
-                let (process, driver) = (Process(process.0), Driver(driver.0));
-                makvluria::fetch(table, memory, flash, process, driver, slot, offset, length)
-            }
-            Step::Latch { driver, peak } => makvluria::latch(table, Driver(driver.0), peak),
-        }
+        steps::make(&mut self.table, &mut self.memory, &self.flash, step)
     }
 
     fn is_of(&self, layer: &Layer) -> bool {

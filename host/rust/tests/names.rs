@@ -1,6 +1,8 @@
 //! That a name stands for its number: each is reached by a real step through the library, or written as document 01 and TRD 104 write it
 //! where no step gives it; and the second program, which has its own names, says the same.
 
+mod steps;
+
 use makvluria::{
     call, deposit, event, fetch, latch, replay, resume, start, Answer, Class, Driver, ErrorCode,
     Image, Process, Progress, Refusal, ReturnVariant, Returned, BOARD_WORDS, FLASH_BASE,
@@ -56,25 +58,7 @@ impl Host {
     }
 
     fn step(&mut self, step: Step) -> Answer {
-        let Host { table, memory, flash } = self;
-        match step {
-            Step::Call { process, class, registers } => {
-                call(table, memory, Process(process.0), Class(class), registers)
-            }
-            Step::Event { process, driver, slot, arguments } => {
-                event(table, Process(process.0), Driver(driver.0), slot, arguments)
-            }
-            Step::Resume { process } => resume(table, Process(process.0)),
-            Step::Deposit { process, driver, slot, offset, bytes } => {
-                let (process, driver) = (Process(process.0), Driver(driver.0));
-                deposit(table, memory, process, driver, slot, offset, bytes)
-            }
-            Step::Fetch { process, driver, slot, offset, length } => {
-                let (process, driver) = (Process(process.0), Driver(driver.0));
-                fetch(table, memory, flash, process, driver, slot, offset, length)
-            }
-            Step::Latch { driver, peak } => latch(table, Driver(driver.0), peak),
-        }
+        steps::make(&mut self.table, &mut self.memory, &self.flash, step)
     }
 }
 

@@ -10,6 +10,7 @@ use std::os::unix::process::ExitStatusExt;
 use std::path::{Path, PathBuf};
 use std::process::{Command, Output, Stdio};
 use std::thread;
+use std::time::Duration;
 
 use second::replay::replay_to_vec;
 use second::text::parse::assemble;
@@ -138,6 +139,22 @@ fn input_that_is_no_trace() {
     let output = shell(&program, r#"exec "$0" <&-"#).output().unwrap();
     told(&output, NOT_READ, "Bad file descriptor");
     assert!(output.stdout.is_empty());
+}
+
+/// What comes in pieces is read to its end.
+#[test]
+fn an_input_in_pieces() {
+    let Some(program) = program() else { return };
+    let (trace, lines) = incident();
+    let mut command = Command::new(program);
+    let mut child = command.stdin(Stdio::piped()).stdout(Stdio::piped()).spawn().unwrap();
+    let mut input = child.stdin.take().unwrap();
+    for piece in trace.chunks(trace.len() / 3) {
+        input.write_all(piece).unwrap();
+        thread::sleep(Duration::from_millis(20));
+    }
+    drop(input);
+    assert_eq!(child.wait_with_output().unwrap().stdout, lines);
 }
 
 #[test]

@@ -2,12 +2,14 @@
 //! library step by step, on records that the second program's reader reads, and in a run over the trace, which reads it too, in one piece
 //! and with a pause after almost every line; and of the proved program on a sample.
 
+mod steps;
+
 use std::io::{self, ErrorKind, Write};
 use std::path::{Path, PathBuf};
 use std::process::{Command, Stdio};
 use std::{env, fs, thread};
 
-use makvluria::{Answer, Class, Driver, Process, Progress, IMAGE_BYTES, LINES_BYTES, TABLE_WORDS};
+use makvluria::{Answer, Progress, IMAGE_BYTES, LINES_BYTES, TABLE_WORDS};
 use second::board::{DriverNumber, ProcessIndex};
 use second::generate::corpus::{every_cut, every_one_byte_change, small_corpus, WHOLE_CASE};
 use second::generate::generate_mixed;
@@ -56,36 +58,7 @@ impl Host {
     }
 
     fn step(&mut self, step: Step) -> Answer {
-        let Host { table, memory, flash } = self;
-        match step {
-            Step::Call { process, class, registers } => {
-                makvluria::call(table, memory, Process(process.0), Class(class), registers)
-            }
-            Step::Event { process, driver, slot, arguments } => {
-                makvluria::event(table, Process(process.0), Driver(driver.0), slot, arguments)
-            }
-            Step::Resume { process } => makvluria::resume(table, Process(process.0)),
-            Step::Deposit { process, driver, slot, offset, bytes } => makvluria::deposit(
-                table,
-                memory,
-                Process(process.0),
-                Driver(driver.0),
-                slot,
-                offset,
-                bytes,
-            ),
-            Step::Fetch { process, driver, slot, offset, length } => makvluria::fetch(
-                table,
-                memory,
-                flash,
-                Process(process.0),
-                Driver(driver.0),
-                slot,
-                offset,
-                length,
-            ),
-            Step::Latch { driver, peak } => makvluria::latch(table, Driver(driver.0), peak),
-        }
+        steps::make(&mut self.table, &mut self.memory, &self.flash, step)
     }
 
     fn write_answer(&self, out: &mut Vec<u8>, answer: Answer) {

@@ -1,11 +1,12 @@
 //! The proved check of a table beside the second program's, which is its own reading of docs/LAYOUT.md: every word of tables that steps
 //! reach, tried with other values. The tables are reached by steps of the library, and are the second program's states written as words.
 
-use makvluria::{Answer, Class, Driver, Process, IMAGE_BYTES, TABLE_WORDS};
+mod steps;
+
+use makvluria::{Answer, IMAGE_BYTES, TABLE_WORDS};
 use second::generate::tables::reached;
 use second::generate::{generate, Kind};
 use second::state::Machine;
-use second::step::Step;
 use second::table::{image, RUNS_FROM, RUN_WORDS};
 use second::trace::Reader;
 
@@ -43,31 +44,17 @@ const fn counts(taken: usize, refused: usize) -> Counts {
     Counts { taken, refused }
 }
 
-fn step(table: &mut [u32], memory: &mut [u8], step: Step) {
-    match step {
-        Step::Call { process, class, registers } => {
-            makvluria::call(table, memory, Process(process.0), Class(class), registers)
-        }
-        Step::Event { process, driver, slot, arguments } => {
-            makvluria::event(table, Process(process.0), Driver(driver.0), slot, arguments)
-        }
-        Step::Resume { process } => makvluria::resume(table, Process(process.0)),
-        Step::Latch { driver, peak } => makvluria::latch(table, Driver(driver.0), peak),
-        // These leave the table as it is.
-        Step::Deposit { .. } | Step::Fetch { .. } => return,
-    };
-}
-
 /// The table after a trace that is good to its end, step by step that of the second program's state.
 fn table_of(name: &str, trace: &[u8]) -> Vec<u32> {
     let (mut table, mut memory) = (vec![0; TABLE_WORDS], vec![0; IMAGE_BYTES]);
+    let flash = vec![0; IMAGE_BYTES];
     let mut reader = Reader::new(trace);
     let board = reader.board().unwrap();
     let mut machine = Machine::start(&board).unwrap();
     assert_eq!(makvluria::start(&mut table, &board), Answer::Started, "{name}");
     assert!(table == image(&machine), "{name}: another table after the start");
     while let Some(next) = reader.step().unwrap() {
-        step(&mut table, &mut memory, next);
+        let _ = steps::make(&mut table, &mut memory, &flash, next);
         let _ = machine.step(next);
         assert!(table == image(&machine), "{name}: another table after {next:?}");
     }
