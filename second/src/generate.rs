@@ -9,6 +9,7 @@ pub mod corpus;
 pub mod long;
 pub mod script;
 pub mod spoil;
+pub mod subscribes;
 pub mod tables;
 pub mod walk;
 

@@ -16,5 +16,6 @@ mod properties;
 mod readings;
 mod refusals;
 mod speed;
+mod subscribes;
 mod table;
 mod traces;
