@@ -1,19 +1,19 @@
 -- The search for a slot's first upcall in rows of words, and the rows from it on: what is done to them is done to all.
-use Prim.Native.Nat.{ℕ, zero, suc, _+_, _-_, _*_, _^_, _≤_, _<_}
+use Prim.Native.Nat.{ℕ, suc, _+_, _-_, _*_, _^_, _≤_, _<_}
 use mathlib.Core.Path.{_≡_, refl, sym, ap, ap₂, subst, _∙_}
 use mathlib.Core.Bool.{Bool, true, false, _&&_}
-use mathlib.Core.List.{List, [], _∷_, _++_, append-assoc, append-nil}
+use mathlib.Core.List.{List, [], _∷_, _++_, append-assoc}
 use native.Mathlib.Nat.{zero-add, add-assoc}
 use native.Mathlib.Omega.{arith}
 use native.Mathlib.Decide.{ℕ-discrete}
-use lib.ListN.{length, take, drop, getD, set, length-append, length-drop, drop-of-length-le}
-use lib.Seq.{length-take-le, take-all, take-add, drop-drop, getD-drop}
+use lib.ListN.{length, take, drop, getD, set, length-append}
+use lib.Seq.{length-take-le, take-add, drop-drop, getD-drop}
 use lib.Dec.{eqb}
 use borrow.Author.Tests.{eqb-true, eq-eqb}
 use borrow.Rule.Slice.PartMut.{midOf, putMid}
 use Rattle.definition.specs.Tests.{if_then_else_}
 use Rattle.definition.specs.State.{Upcall, noUpcall, withQueue}
-use Rattle.definition.specs.Words.{part, tabulate, grid}
+use Rattle.definition.specs.Words.{part, grid}
 use Rattle.definition.specs.Image.{upcallWords, readUpcall, wordsInUpcall, queueFrom, processWords}
 use Rattle.definition.specs.World.{cancel}
 use Rattle.laws.specs.Facts.{both, and}
@@ -26,7 +26,7 @@ use Rattle.process.specs.FirstMatch.{isOf, firstMatch, NoneBelow, IsFirs
 use Rattle.process.specs.MatchLaws.{first-found, first-only}
 use Rattle.process.specs.declared.queue.Match.{Match}
 use Rattle.process.specs.declared.queue.Match.the-variants.{At, None}
-use Rattle.process.proofs.QueueLaws.{lent}
+use Rattle.process.proofs.QueueLaws.{rest-lent, rest-back, lent}
 use Rattle.process.proofs.CancelLaws.{tab-apart, rows, rows-apart, Kept, kept-none, kept-goes, cancel-append, queue-of, cancel-does}
 
 -- ---- one row
@@ -49,25 +49,18 @@ upcalls-length n t = tab-length n (λ m. readUpcall t (m * wordsInUpcall))
 
 -- ---- the search
 
--- none of the first i rows passes
-abbrev pub Passed : (Upcall → Bool) → ℕ → List ℕ → Type 0
-Passed f i t = (m : ℕ) → m < i → f (readUpcall t (m * wordsInUpcall)) ≡ false
-
-module _ (f : Upcall → Bool) (t : List ℕ) (i : ℕ) (h : Passed f i t) where
-  pub passed-more : (r : Bool) → r ≡ f (readUpcall t (i * wordsInUpcall)) → r ≡ false → Passed f (i + 1) t
-  passed-more r e q m b = elim (ℕ-discrete m i) [
-    | yes s ↦ ap (λ (k : ℕ). f (readUpcall t (k * wordsInUpcall))) s ∙ sym e ∙ q
+module _ (f : Upcall → Bool) (t : List ℕ) (n i : ℕ) (h : NoneBelow i f (upcallsIn n t)) where
+  pub none-further : (r : Bool) → i < n → r ≡ f (readUpcall t (i * wordsInUpcall)) → r ≡ false → NoneBelow (i + 1) f (upcallsIn n t)
+  none-further r g e q m b = elim (ℕ-discrete m i) [
+    | yes s ↦ ap (λ (k : ℕ). f (getD (upcallsIn n t) k noUpcall)) s ∙ ap f (tab-at n _ i noUpcall g) ∙ sym e ∙ q
     | no s ↦ h m (omega arith)
   ]
 
-  none-below : (n : ℕ) → i ≤ n → NoneBelow i f (upcallsIn n t)
-  none-below n g m b = ap f (tab-at n _ m noUpcall (omega arith)) ∙ h m b
+  pub found : (r : Bool) → i < n → r ≡ f (readUpcall t (i * wordsInUpcall)) → r ≡ true → At i ≡ firstMatch f (upcallsIn n t)
+  found r g e q = first-only f (upcallsIn n t) (At i) (omega (arith, upcalls-length n t), ap f (tab-at n _ i noUpcall g) ∙ sym e ∙ q, h)
 
-  pub found : (n : ℕ) (r : Bool) → i < n → r ≡ f (readUpcall t (i * wordsInUpcall)) → r ≡ true → At i ≡ firstMatch f (upcallsIn n t)
-  found n r b e q = first-only f (upcallsIn n t) (At i) (omega (arith, upcalls-length n t), ap f (tab-at n _ i noUpcall b) ∙ sym e ∙ q, none-below n (omega arith))
-
-  pub found-none : (n : ℕ) → i ≤ n → n ≤ i → None ≡ firstMatch f (upcallsIn n t)
-  found-none n b g = first-only f (upcallsIn n t) None (λ m l. none-below n b m (omega (arith, upcalls-length n t)))
+  pub found-none : n ≤ i → None ≡ firstMatch f (upcallsIn n t)
+  found-none g = first-only f (upcallsIn n t) None (λ m b. h m (omega (arith, upcalls-length n t)))
 
 -- a place that is found is one of the rows
 pub found-below : (f : Upcall → Bool) (n : ℕ) (t : List ℕ) {r : Match} {i : ℕ} → r ≡ firstMatch f (upcallsIn n t) → r ≡ At i → i < n
@@ -146,24 +139,24 @@ none-does k j run n e s p z w =
     let none : IsFirst (isOf k j) (p .queue) None = first-found (isOf k j) (p .queue) None (s ∙ ap (firstMatch (isOf k j)) q) in
     w ∙ ap (λ (l : List Upcall). processWords (withQueue l p)) (sym (cancel-none k j (p .queue) none))
 
--- the words from a place to the end, lent as a part: those from a further place on
+-- the words lent from a further place on are the last of those lent, and come back behind the first
 module _ (run : List ℕ) (a b : ℕ) where
   lent-further : midOf (a + b) (length run - (a + b)) run ≡ drop b (midOf a (length run - a) run)
-  lent-further =
-      take-all (length run - (a + b)) (drop (a + b) run) (simp length-drop (omega arith))
-      ∙ sym (ap (drop b) (take-all (length run - a) (drop a run) (simp length-drop (omega arith))) ∙ drop-drop b a run)
+  lent-further = rest-lent run (a + b) ∙ sym (ap (drop b) (rest-lent run a) ∙ drop-drop b a run)
 
   back-further : (after : List ℕ) → putMid (a + b) (length run - (a + b)) run after ≡ putMid a (length run - a) run (take b (midOf a (length run - a) run) ++ after)
   back-further after =
-      let end : drop (length run - (a + b)) (drop (a + b) run) ≡ [] = drop-of-length-le (drop (a + b) run) {i = length run - (a + b)} (simp length-drop (omega arith)) in
-      let end′ : drop (length run - a) (drop a run) ≡ [] = drop-of-length-le (drop a run) {i = length run - a} (simp length-drop (omega arith)) in
-      let all : take (length run - a) (drop a run) ≡ drop a run = take-all (length run - a) (drop a run) (simp length-drop (omega arith)) in
-      rw (end, end′, all, append-nil after, append-nil (take b (drop a run) ++ after), take-add a b run, append-assoc (take a run) (take b (drop a run)) after)
+      rest-back run (a + b) after
+      ∙ ap (λ (l : List ℕ). l ++ after) (take-add a b run)
+      ∙ append-assoc (take a run) (take b (drop a run)) after
+      ∙ sym (rest-back run a (take b (midOf a (length run - a) run) ++ after) ∙ ap (λ (l : List ℕ). take a run ++ (take b l ++ after)) (rest-lent run a))
 
 -- what is lent from a match on begins with it
-pub lent-first : (f : Upcall → Bool) (run : List ℕ) (n i : ℕ) → i ≤ n → At i ≡ firstMatch f (upcallsIn n (lent run))
-    → firstMatch f (upcallsIn (n - i) (midOf (queueFrom + i * wordsInUpcall) (length run - (queueFrom + i * wordsInUpcall)) run)) ≡ At 0
-lent-first f run n i b e = ap (λ (l : List ℕ). firstMatch f (upcallsIn (n - i) l)) (lent-further run queueFrom (i * wordsInUpcall)) ∙ first-there (lent run) n i b f e
+pub lent-first : (f : Upcall → Bool) (run : List ℕ) (n i from : ℕ) → from ≡ queueFrom + i * wordsInUpcall → i ≤ n → At i ≡ firstMatch f (upcallsIn n (lent run))
+    → firstMatch f (upcallsIn (n - i) (midOf from (length run - from) run)) ≡ At 0
+lent-first f run n i from s b e =
+    ap (λ (l : List ℕ). firstMatch f (upcallsIn (n - i) l)) (ap (λ (a : ℕ). midOf a (length run - a) run) s ∙ lent-further run queueFrom (i * wordsInUpcall))
+    ∙ first-there (lent run) n i b f e
 
 -- the rows from the first match on become what the cancel leaves of them, and the count is less by those that have gone
 pub found-does : (k j : ℕ) (run after : List ℕ) (n i gone : ℕ) → n ≡ getD run 2 0 → n * wordsInUpcall ≤ length (lent run) → i ≤ n → At i ≡ firstMatch (isOf k j) (upcallsIn n (lent run)) → gone ≤ n - i
