@@ -1,5 +1,6 @@
 /* The incident, from C. Process 0 lent a buffer at 0xFFFFFFFF with size 2; the sum of the two wraps in 32 bits. Here it is refused, and
- * what a driver deposits for process 1 lands in process 1's buffer and nowhere else. Then each other step once, and a run over a trace. */
+ * what a driver deposits for process 1 lands in process 1's buffer and nowhere else. Then each other step once, the question where a buffer
+ * lies, and a run over a trace. */
 #include <inttypes.h>
 #include <stdio.h>
 
@@ -28,6 +29,9 @@ static uint32_t table[MK_TABLE_WORDS];
 static uint8_t memory[MK_IMAGE_BYTES];
 static uint8_t flash[MK_IMAGE_BYTES];
 static uint32_t out[MK_ANSWER_WORDS];
+
+/* By enum mk_held_area. */
+static const char *const area_names[] = {"empty", "RAM", "flash", "outside"};
 
 static void print_answer(const char *what, bool done) {
   if (!done) {
@@ -63,6 +67,9 @@ static void print_answer(const char *what, bool done) {
       break;
     case MK_STARTED:
       printf("%s: started\n", what);
+      break;
+    case MK_HELD:
+      printf("%s: %s, %" PRIu32 " bytes at 0x%08" PRIX32 "\n", what, area_names[out[1]], out[3], out[2]);
       break;
     default:
       printf("%s: kind %" PRIu32 "\n", what, out[0]);
@@ -111,6 +118,18 @@ static void each_other_step(void) {
   call("process 1 reads", process_1, MK_CLASS_COMMAND, CORRELATOR, 3, 0, 0);
 }
 
+/* Where a buffer in the first slot of a driver lies. */
+static void area(const char *what, mk_process_t process, uint8_t class_number, mk_driver_t driver) {
+  print_answer(what, mk_buffer_area(table, MK_TABLE_WORDS, process, class_number, driver, 0, out, MK_ANSWER_WORDS));
+}
+
+static void questions(void) {
+  area("the buffer that process 1 lends to be written", process_1, MK_CLASS_READWRITE_ALLOW, receiver);
+  area("the one to be read", process_1, MK_CLASS_READONLY_ALLOW, receiver);
+  area("that of process 0, which has lent none", process_0, MK_CLASS_READONLY_ALLOW, receiver);
+  area("one to be read by the correlator, which has no slot for it", process_1, MK_CLASS_READONLY_ALLOW, correlator);
+}
+
 /* Prints the lines of a trace as they come. The room is small, so that a run of a few lines pauses; one that fetches many bytes needs
  * more, up to MK_LINES_BYTES. */
 static void replay(const uint8_t *trace, size_t trace_bytes) {
@@ -145,6 +164,7 @@ int main(void) {
   print_answer("start", mk_table_start(table, MK_TABLE_WORDS, board, sizeof board / sizeof *board, out, MK_ANSWER_WORDS));
   incident();
   each_other_step();
+  questions();
   printf("the table is %swell formed\n", mk_table_is_well_formed(table, MK_TABLE_WORDS) ? "" : "not ");
   replay(whole_case, sizeof whole_case);
   return 0;

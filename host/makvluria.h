@@ -1,4 +1,4 @@
-/* The layer, for C and C++: its steps and its run over a trace, in the static library that `rt staticlib host` writes
+/* The layer, for C and C++: its steps, its run over a trace and a question, in the static library that `rt staticlib host` writes
  * (target/staticlib/libhost.a, x86-64; installed, libmakvluria.a). Each is proved for any numbers and any contents and lengths;
  * crates/host/src/lib.rt has the contracts. docs/LINKING.md says the rest that a kernel has to know.
  *
@@ -10,11 +10,12 @@
  *    elements. Const slices may overlap, or be the same: both images of a fetch, or the trace and the flash of a run;
  *  - until the call returns nothing else writes a slice, and nothing else reads one that is not const.
  *
- * A step writes its answer into the first MK_ANSWER_WORDS words of out, a run how far it came into the first MK_RUN_WORDS, and it returns
- * true. Where out is shorter nothing is done and nothing changes: it returns false.
+ * A step or a question writes its answer into the first MK_ANSWER_WORDS words of out, a run how far it came into the first MK_RUN_WORDS,
+ * and it returns true. Where out is shorter nothing is done and nothing changes: it returns false.
  *
- * What a call costs: every step but start checks the whole lent table, each time, and that is most of its time. A run over a trace checks
- * it once, where it is taken up again; from the board on it makes the table itself, and checks none. docs/FIGURES.md has the times.
+ * What a call costs: every step but start checks the whole lent table, each time, and that is most of its time; so does a question. A run
+ * over a trace checks it once, where it is taken up again; from the board on it makes the table itself, and checks none. docs/FIGURES.md
+ * has the times.
  *
  * What the library needs: memcpy and memset, a stack that is aligned as the System V ABI says, and nothing else; it keeps nothing between
  * calls but what is in the lent slices. It uses SSE registers, and the red zone below the stack pointer. */
@@ -54,12 +55,21 @@ enum mk_kind {
   MK_STARTED = 8,
   MK_EXITED = 9,     /* the completion code */
   MK_RESTARTED = 10, /* the completion code */
-  MK_FETCHED = 11    /* the refusal's number, 0 where accepted; image (enum mk_image), place of the first byte in it, length */
+  MK_FETCHED = 11,   /* the refusal's number, 0 where accepted; image (enum mk_image), place of the first byte in it, length */
+  MK_HELD = 12       /* a held buffer: where it lies (enum mk_held_area), its address and its size */
 };
 
 enum mk_image { MK_MEMORY = 0, MK_FLASH = 1 };
 
-/* Why a step is refused. The first that applies is given, in this order but for 11, which stands before 10. */
+/* Where a held buffer lies. */
+enum mk_held_area {
+  MK_AREA_EMPTY = 0,  /* it has no bytes, whatever its address */
+  MK_AREA_RAM = 1,    /* wholly in the process's RAM, below its break */
+  MK_AREA_FLASH = 2,  /* wholly in the process's flash */
+  MK_AREA_OUTSIDE = 3 /* anywhere else; no buffer that a well-formed table holds lies so */
+};
+
+/* Why a step or a question is refused. The first that applies is given, in this order but for 11, which stands before 10. */
 enum mk_refusal {
   MK_ACCEPTED = 0,
   MK_NO_IMAGE = 1,         /* a lent image is not MK_IMAGE_BYTES long */
@@ -151,6 +161,8 @@ bool mk_fetch(const uint32_t *table, size_t table_words, const uint8_t *memory, 
               size_t flash_bytes, uint32_t process, uint32_t driver, uint32_t slot, uint32_t offset, uint32_t length, uint32_t *out,
               size_t out_words) MK_NEVER_NULL;
 bool mk_latch(uint32_t *table, size_t table_words, uint32_t driver, int32_t peak, uint32_t *out, size_t out_words) MK_NEVER_NULL;
+bool mk_area(const uint32_t *table, size_t table_words, uint32_t process, uint8_t class_number, uint32_t driver, uint32_t slot,
+             uint32_t *out, size_t out_words) MK_NEVER_NULL;
 bool mk_replay(const uint8_t *trace, size_t trace_bytes, size_t at, uint32_t *table, size_t table_words, uint8_t *memory,
                size_t memory_bytes, const uint8_t *flash, size_t flash_bytes, uint8_t *lines, size_t lines_bytes, uint64_t *out,
                size_t out_words) MK_NEVER_NULL;
@@ -226,6 +238,16 @@ static inline bool mk_driver_latch(uint32_t *table, size_t table_words, mk_drive
                                    size_t out_words) {
   union mk_empty empty = {0};
   return mk_latch(table_words ? table : &empty.word, table_words, driver.number, peak, out_words ? out : &empty.word, out_words);
+}
+
+/* Where the buffer lies that a process holds in a slot of a driver. The class is that of the allow that lends it, MK_CLASS_READWRITE_ALLOW
+ * or MK_CLASS_READONLY_ALLOW; of any other class a driver has no such slot. It is a question and no step: it changes nothing, and a process
+ * that waits or has exited can be asked about too. The table is checked for it as for a step. */
+static inline bool mk_buffer_area(const uint32_t *table, size_t table_words, mk_process_t process, uint8_t class_number,
+                                  mk_driver_t driver, uint32_t slot, uint32_t *out, size_t out_words) {
+  union mk_empty empty = {0};
+  return mk_area(table_words ? table : &empty.word, table_words, process.index, class_number, driver.number, slot,
+                 out_words ? out : &empty.word, out_words);
 }
 
 /* Whether a run has ended, out[0]. After it: the place in the trace to go on from, 0 where it has, and the bytes written to lines. */

@@ -27,7 +27,7 @@ static void told(bool done, uint32_t kind, uint32_t number) {
   assert(done && out[0] == kind && out[1] == number);
 }
 
-static void steps(void) {
+static void steps_and_the_question(void) {
   assert(!mk_table_is_well_formed(NONE));
 
   told(mk_table_start(NONE, BOARD, OUT), MK_REFUSED, MK_NO_TABLE);
@@ -47,6 +47,9 @@ static void steps(void) {
 
   told(mk_driver_latch(NONE, driver, -5, OUT), MK_REFUSED, MK_NO_TABLE);
   assert(!mk_driver_latch(TABLE, driver, -5, NONE));
+
+  told(mk_buffer_area(NONE, process, MK_CLASS_READONLY_ALLOW, driver, 0, OUT), MK_REFUSED, MK_NO_TABLE);
+  assert(!mk_buffer_area(TABLE, process, MK_CLASS_READONLY_ALLOW, driver, 0, NONE));
 }
 
 /* A deposit and a fetch of no bytes are accepted; the images and the table have to be there. */
@@ -82,7 +85,7 @@ static void runs(void) {
 }
 
 int main(void) {
-  steps();
+  steps_and_the_question();
   buffers();
   runs();
   printf("C: a null pointer with length 0 is an empty slice, for each slice of each function\n");

@@ -31,7 +31,7 @@ static uint32_t out[MK_ANSWER_WORDS];
 static uint64_t run[MK_RUN_WORDS];
 static const uint8_t bytes[16];
 
-/* The registers of the call, and where the run begins: what the cases differ in. */
+/* The class and the registers of the call, the class of the question, and where the run begins: what the cases differ in. */
 static uint8_t class_number;
 static uint32_t r[4];
 static size_t at;
@@ -44,6 +44,7 @@ static bool resume(void) { return mk_resume(TABLE, 7, OUT); }
 static bool deposit(void) { return mk_deposit(TABLE, MEMORY, 7, DRIVERS, SLOTS - 1, 0, bytes, sizeof bytes, OUT); }
 static bool fetch(void) { return mk_fetch(TABLE, MEMORY, FLASH, 7, DRIVERS, SLOTS - 1, 0, 16, OUT); }
 static bool latch(void) { return mk_latch(TABLE, DRIVERS, -5, OUT); }
+static bool area(void) { return mk_area(TABLE, 7, class_number, DRIVERS, SLOTS - 1, OUT); }
 static bool replay(void) { return mk_replay(trace, trace_bytes, at, TABLE, MEMORY, FLASH, lines, sizeof lines, run, MK_RUN_WORDS); }
 
 static unsigned char stack[65536];
@@ -165,6 +166,21 @@ static void steps(void) {
   for (size_t i = 0; i < 8; i++) tell(names[i], most[i], STEP_BOUND);
 }
 
+/* The question on the full table: of each class, and where there is no table. */
+static void questions(void) {
+  size_t most = 0;
+  memcpy(table, full, sizeof full);
+  for (class_number = 0; class_number < 8; class_number++) {
+    bool lends = class_number == MK_CLASS_READWRITE_ALLOW || class_number == MK_CLASS_READONLY_ALLOW;
+    take(&most, area);
+    expect(out[0] == (lends ? MK_HELD : MK_REFUSED));
+  }
+  table[0] = 0;
+  take(&most, area);
+  expect(out[0] == MK_REFUSED && out[1] == MK_NO_TABLE);
+  tell("mk_area", most, STEP_BOUND);
+}
+
 /* Each trace, with a restart of process 0 at its end: every cut of it from the board on, and all of it from every place on, most of which
  * are no record's, so that what is there is broken. */
 static void runs(int files, char **names) {
@@ -187,6 +203,7 @@ int main(int count, char **names) {
   expect(count > 1);
   fill();
   steps();
+  questions();
   runs(count - 1, names + 1);
   return failed;
 }

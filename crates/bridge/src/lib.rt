@@ -1,4 +1,4 @@
-// The bridge from the code to the promises: for each public function of the layer one that calls it and ensures that this was a call as the
+// The bridge from the code to the promises: for each public step of the layer, and for its run, a function that calls it and ensures that this was a call as the
 // promises speak of it. So what they speak of is held to the layer's own contracts by the checker, and a list of calls of these functions isolates.
 ghost use Prim.Native.Nat.{ℕ};
 ghost use mathlib.Core.List.{List};

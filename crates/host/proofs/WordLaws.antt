@@ -14,15 +14,20 @@ use Rattle.definition.specs.World.{Step, own, Out}
 use Rattle.definition.specs.Table.{Lent, tableStep}
 use Rattle.laws.specs.Unchanged.{unchanged}
 use Rattle.types.specs.declared.Answer.{Answer as Code}
+use Rattle.types.specs.declared.Area.{Area}
 use Rattle.types.specs.declared.Image.{Image as Named}
-use Rattle.types.specs.Meaning.{answerOf}
+use Rattle.types.specs.declared.Pair.{Pair}
+use Rattle.types.specs.Meaning.{areaNamed, answerOf}
 use Rattle.words.specs.Splice.{splice}
 use Rattle.layer.specs.declared.Place.{Place}
 use Rattle.layer.specs.declared.Fetched.{Fetched}
+use Rattle.layer.specs.declared.Located.{Located}
+use Rattle.layer.specs.declared.Located.the-variants as says
 use Rattle.layer.specs.Steps.{gave}
 use Rattle.layer.specs.Fetching.{imageOf, Finds}
+use Rattle.layer.specs.Asking.{locatedOf}
 use Rattle.layer.specs.StatementLaws.{part-size}
-use Rattle.host.specs.Answers.{imageWord, answerWords, placeWords, told, tell}
+use Rattle.host.specs.Answers.{imageWord, answerWords, placeWords, areaNumber, locatedWords, told, tell, answered}
 
 -- words that are put at the front of out are those that they are said to be
 pub front-is : (n : ℕ) (out : List ℕ) {row words out′ : List ℕ} → row ≡ words → out′ ≡ row ++ drop n out → out′ ≡ words ++ drop n out
@@ -73,3 +78,21 @@ module _ (p driver j offset n : ℕ) (x : Lent) where
   told-fetched r out out′ h finds w =
       told-answer (tableStep asked) x out given x out′ h (λ i. gave given (unchanged .tables asked x (ap changesNothing (finds .answer)) i))
       (w ∙ ap (λ (s : List ℕ). s ++ drop 6 out) (found-words given (x .memory) (x .flash) r finds))
+
+-- ---- of a held buffer
+
+-- the words of what was found, by its variant; of a buffer by the number of its area
+pub located-told : {a b : Located} → a ≡ b → locatedWords (locatedOf b) ≡ locatedWords (locatedOf a)
+located-told e = sym (ap (λ (a : Located). locatedWords (locatedOf a)) e)
+
+pub lies-told : (a : Located) (area : Area) (x : Pair) (n : ℕ) → a ≡ says.Lies area x → n ≡ areaNumber (areaNamed area) → (12 ∷ n ∷ x .0 ∷ x .1 ∷ 0 ∷ 0 ∷ []) ≡ locatedWords (locatedOf a)
+lies-told a area x n e q = ap (λ (n : ℕ). 12 ∷ n ∷ x .0 ∷ x .1 ∷ 0 ∷ 0 ∷ []) q ∙ located-told e
+
+module _ (words out : List ℕ) where
+  pub asked-nothing : length out < 6 → answered words out ≡ (false, out)
+  unfolding answered if_then_else_
+  asked-nothing h = rw (lt-leb 6 (length out) h)
+
+  pub asked-answer : (words′ out′ : List ℕ) → 6 ≤ length out → words′ ≡ words → out′ ≡ words′ ++ drop 6 out → answered words out ≡ (true, out′)
+  unfolding answered if_then_else_
+  asked-answer words′ out′ h e w = rw (le-leb 6 (length out) h) (ap (λ (l : List ℕ). (true, l)) (sym (front-is 6 out e w)))

@@ -1,4 +1,4 @@
--- What a host is told of a step: an answer as a kind and five words, at the front of a slice that it lends.
+-- What a host is told of a step, and of where a held buffer lies: an answer as a kind and five words, at the front of a slice that it lends.
 use Prim.Native.Nat.{ℕ}
 use mathlib.Core.Path.{_≡_}
 use mathlib.Core.Bool.{Bool, true, false}
@@ -7,8 +7,10 @@ use lib.ListN.{length, drop}
 use lib.Dec.{leb}
 use Rattle.definition.specs.Tests.{if_then_else_}
 use Rattle.definition.specs.Answer.{Image, memory, flash, Answer, refused, registers, delivered, waits, nothing, taken, deposited, latched, started, terminated, restarted, fetched}
+use Rattle.definition.specs.Area.{Area, empty, inRam, inFlash, outside}
 use Rattle.definition.specs.World.{Out}
 use Rattle.definition.specs.Table.{Lent}
+use Rattle.definition.specs.Located.{Located, refused as unlocated, lies}
 use Rattle.layer.specs.declared.Place.{Place}
 use Rattle.layer.specs.Steps.{lent}
 use Rattle.layer.specs.Fetching.{imageOf}
@@ -36,6 +38,17 @@ answerWords (fetched n x) = 11 ∷ n ∷ imageWord (x .image) ∷ x .place ∷ l
 abbrev pub placeWords : ℕ → Place → List ℕ
 placeWords n x = 11 ∷ n ∷ imageWord (imageOf (x .image)) ∷ x .place ∷ x .length ∷ 0 ∷ []
 
+-- those of where a held buffer lies: its area, its address and its size
+abbrev pub areaNumber : Area → ℕ
+areaNumber empty = 0
+areaNumber inRam = 1
+areaNumber inFlash = 2
+areaNumber outside = 3
+
+abbrev pub locatedWords : Located → List ℕ
+locatedWords (unlocated n) = 0 ∷ n ∷ 0 ∷ 0 ∷ 0 ∷ 0 ∷ []
+locatedWords (lies area x) = 12 ∷ areaNumber area ∷ x .first ∷ x .second ∷ 0 ∷ 0 ∷ []
+
 -- ---- an exported step, whatever is lent
 
 -- what the host has afterwards: the bool that it gets, all that it lent to the step, and the slice for the answer
@@ -62,3 +75,9 @@ WritesAlone step t out r t′ out′ = (m : List ℕ) → Writes step t m out r 
 -- it takes both images, and only reads
 abbrev pub WritesOnly : (Lent → Out Lent) → (table memory flash out : List ℕ) → Bool → (outAfter : List ℕ) → Type 0
 WritesOnly step t m f out r out′ = tell step (lent t m f) out ≡ told r (lent t m f) out′
+
+-- ---- an exported question: what is lent to it is only read
+
+-- its words stand in the first six of out, the rest of which stays as it was; where out has fewer, nothing is done
+unfoldable pub answered : (words out : List ℕ) → Bool × List ℕ
+answered words out = if leb 6 (length out) then (true, words ++ drop 6 out) else (false, out)

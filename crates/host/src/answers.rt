@@ -1,13 +1,18 @@
-// An answer as a kind and five words.
+// An answer as a kind and five words, and so where a held buffer lies.
 ghost use mathlib.Core.Path.{_≡_};
 ghost use mathlib.Core.List.{_++_};
 ghost use Prim.Native.Nat.{_≤_};
 ghost use lib.ListN.{length, drop};
-ghost use Rattle.types.specs.Meaning.{answerOf};
-ghost use Rattle.host.specs.Answers.{answerWords, placeWords};
+ghost use Rattle.definition.specs.Located.{lentBy};
+ghost use Rattle.types.specs.Meaning.{kindOf, areaNamed, answerOf};
+ghost use Rattle.layer.specs.Asking.{locatedOf};
+ghost use Rattle.host.specs.Answers.{answerWords, placeWords, areaNumber, locatedWords};
+use layer::Located;
 use layer::Place;
 use types::Answer;
+use types::Area;
 use types::Image;
+use types::Kind;
 
 // How many words an answer takes.
 pub(crate) const WORDS: usize = 6;
@@ -63,4 +68,45 @@ pub(crate) fn tell_fetched(out: &mut [u32], number: u32, place: Place)
     ensures { λ _. ⌜ now (out .exit) ≡ placeWords number place ++ drop 6 (now (out .entry)) ⌝ }
 {
     put(out, words_fetched(number, place));
+}
+
+// The kind of slot that a class lends buffers in; for a class that lends none, one that holds none.
+pub(crate) fn lent_by(class: u8) -> Kind
+    ensures { λ r. ⌜ kindOf r ≡ lentBy class ⌝ }
+{
+    if class == 3 {
+        return Kind::ReadWrite;
+    }
+    if class == 4 {
+        return Kind::ReadOnly;
+    }
+    Kind::Subscribe
+}
+
+fn area_number(area: Area) -> u32
+    ensures { λ r. ⌜ r ≡ areaNumber (areaNamed area) ⌝ }
+{
+    match area {
+        Area::Empty => 0,
+        Area::Ram => 1,
+        Area::Flash => 2,
+        Area::Outside => 3,
+    }
+}
+
+// The words of a held buffer: its area, its address and its size.
+fn words_located(located: Located) -> [u32; WORDS]
+    ensures { λ r. ⌜ r ≡ locatedWords (locatedOf located) ⌝ }
+{
+    match located {
+        Located::Refused(number) => [0, number, 0, 0, 0, 0],
+        Located::Lies(area, pair) => [12, area_number(area), pair.0, pair.1, 0, 0],
+    }
+}
+
+pub(crate) fn tell_located(out: &mut [u32], located: Located)
+    requires { ⌜ 6 ≤ length (now out) ⌝ }
+    ensures { λ _. ⌜ now (out .exit) ≡ locatedWords (locatedOf located) ++ drop 6 (now (out .entry)) ⌝ }
+{
+    put(out, words_located(located));
 }

@@ -1,13 +1,14 @@
-// What a C or Rust host links: the layer's steps on numbers and slices, and its run over a trace. Each takes any numbers and slices; a step
-// says what it did in six words of a slice that the host lends, and the run in three.
+// What a C or Rust host links: the layer's steps on numbers and slices, where a held buffer lies, and its run over a trace. Each takes any
+// numbers and slices; a step says what it did in six words of a slice that the host lends, and the run in three.
 ghost use mathlib.Core.Path.{_≡_};
 ghost use Rattle.definition.specs.Decide.{call, event, resume, deposit, fetch};
 ghost use Rattle.definition.specs.World.{own, latch};
 ghost use Rattle.definition.specs.Signed.{wordOf};
 ghost use Rattle.definition.specs.Image.{wellFormed};
 ghost use Rattle.definition.specs.Table.{tableStep, start};
+ghost use Rattle.definition.specs.Located.{locate, lentBy};
 ghost use Rattle.layer.specs.Steps.{lent};
-ghost use Rattle.host.specs.Answers.{Writes, WritesAlone, WritesOnly};
+ghost use Rattle.host.specs.Answers.{locatedWords, Writes, WritesAlone, WritesOnly, answered};
 ghost use Rattle.host.specs.Runs.{Runs};
 
 mod answers;
@@ -177,6 +178,27 @@ pub extern "C" fn mk_latch(table: &mut [u32], driver: u32, peak: i32, out: &mut 
     }
     let latched = layer::latch(table, Driver(driver), peak);
     answers::tell(out, latched);
+    true
+}
+
+// Where the buffer lies that a process holds in a slot of a driver. The class is that of the allow that lends it, 3 or 4.
+#[no_mangle]
+pub extern "C" fn mk_area(
+    table: &[u32],
+    process: u32,
+    class: u8,
+    driver: u32,
+    slot: u32,
+    out: &mut [u32],
+) -> bool
+    ensures { λ r. ⌜ answered (locatedWords (locate (lentBy class) process driver slot (now (table .entry)))) (now (out .entry)) ≡ (r, now (out .exit)) ⌝ }
+{
+    if out.len() < answers::WORDS {
+        return false;
+    }
+    let kind = answers::lent_by(class);
+    let located = layer::area(table, Process(process), kind, Driver(driver), slot);
+    answers::tell_located(out, located);
     true
 }
 

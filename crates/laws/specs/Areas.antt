@@ -1,75 +1,58 @@
--- Where a buffer lies: its area taken apart into numbers, and what the tests of it come to.
+-- Where a buffer lies, in numbers: what each area says of a buffer, and that a buffer of which this can be said lies there.
 use Prim.Native.Nat.{ℕ, _+_, _≤_}
-use mathlib.Core.Path.{_≡_, refl, sym, _∙_}
-use mathlib.Core.Bool.{Bool, true, false, _&&_, _||_, not}
+use mathlib.Core.Path.{_≡_, refl}
+use mathlib.Core.Bool.{Bool, true, false}
 use mathlib.Core.Logic.{_≢_}
 use lib.Dec.{eqb}
-use borrow.Author.Tests.{eqb-true, eqb-false, ne-eqb}
+use borrow.Author.Tests.{eqb-true, eqb-false, eq-eqb, ne-eqb}
 use Rattle.definition.specs.Tests.{if_then_else_, within}
-use Rattle.definition.specs.Board.{Areas, readWrite, readOnly}
+use Rattle.definition.specs.Board.{Areas, readOnly}
 use Rattle.definition.specs.State.{Pair}
-use Rattle.definition.specs.Area.{Area, empty, inRam, inFlash, outside, areaOf, accessible, holdable, isInRam}
-use Rattle.laws.specs.Facts.{or-false, within-true}
+use Rattle.definition.specs.Area.{Area, empty, inRam, inFlash, outside, areaOf, accessible}
+use Rattle.laws.specs.Facts.{within-true, within-false, true-within, false-within}
 
 module _ (a : Areas) (break : ℕ) (x : Pair) where
-  -- the three tests of an area
-  abbrev pub isNone : Bool
-  isNone = eqb (x .second) 0
+  -- wholly in [S, break), and wholly in [F, FE)
+  abbrev pub InRam : Type 0
+  InRam = (a .ramStart ≤ x .first) × (x .first + x .second ≤ break)
 
-  abbrev pub isRam : Bool
-  isRam = within (a .ramStart) break (x .first) (x .second)
+  abbrev pub InFlash : Type 0
+  InFlash = (a .flashStart ≤ x .first) × (x .first + x .second ≤ a .flashEnd)
 
-  abbrev pub isFlash : Bool
-  isFlash = within (a .flashStart) (a .flashEnd) (x .first) (x .second)
+  -- what each area says of a buffer
+  abbrev pub Lies : Area → Type 0
+  Lies empty = x .second ≡ 0
+  Lies inRam = (x .second ≢ 0) × InRam
+  Lies inFlash = (x .second ≢ 0) × (InRam → ⊥) × InFlash
+  Lies outside = (x .second ≢ 0) × (InRam → ⊥) × (InFlash → ⊥)
 
-  -- a buffer that lies in an area, by its numbers
-  pub data Lies : Area → Type 0 where
-    lies-nowhere : x .second ≡ 0 → Lies empty
-    lies-ram : x .second ≢ 0 → a .ramStart ≤ x .first → x .first + x .second ≤ break → Lies inRam
-    lies-flash : x .second ≢ 0 → isRam ≡ false → a .flashStart ≤ x .first → x .first + x .second ≤ a .flashEnd → Lies inFlash
-    lies-outside : x .second ≢ 0 → isRam ≡ false → isFlash ≡ false → Lies outside
-
+  -- the area of a buffer, taken apart into its numbers
   pub area-lies : Lies (areaOf a break x)
   unfolding areaOf if_then_else_
-  area-lies = go isNone isRam isFlash refl refl refl
+  area-lies = go _ _ _ refl refl refl
     where
-      go : (s t u : Bool) → isNone ≡ s → isRam ≡ t → isFlash ≡ u → Lies (if s then empty else if t then inRam else if u then inFlash else outside)
-      go true t u p q r = lies-nowhere (eqb-true _ _ p)
-      go false true u p q r = let (low, high) = within-true _ _ _ _ q in lies-ram (eqb-false _ _ p) low high
-      go false false true p q r = let (low, high) = within-true _ _ _ _ r in lies-flash (eqb-false _ _ p) q low high
-      go false false false p q r = lies-outside (eqb-false _ _ p) q r
+      go : (s t u : Bool) → eqb (x .second) 0 ≡ s → within (a .ramStart) break (x .first) (x .second) ≡ t → within (a .flashStart) (a .flashEnd) (x .first) (x .second) ≡ u
+          → Lies (if s then empty else if t then inRam else if u then inFlash else outside)
+      go true t u p q r = eqb-true _ _ p
+      go false true u p q r = (eqb-false _ _ p, within-true _ _ _ _ q)
+      go false false true p q r = (eqb-false _ _ p, within-false _ _ _ _ q, within-true _ _ _ _ r)
+      go false false false p q r = (eqb-false _ _ p, within-false _ _ _ _ q, within-false _ _ _ _ r)
 
-  -- what the area is asked for, by the tests: whether a read-write and a read-only buffer may lie so, and whether it lies in RAM
-  area-tests : (s t u : Bool) → let area = if s then empty else if t then inRam else if u then inFlash else outside in
-      (accessible readWrite area ≡ (s || t)) × (accessible readOnly area ≡ (s || (t || u))) × (isInRam area ≡ (not s && t))
-  unfolding accessible if_then_else_
-  area-tests true t u = (refl, refl, refl)
-  area-tests false true u = (refl, refl, refl)
-  area-tests false false true = (refl, refl, refl)
-  area-tests false false false = (refl, refl, refl)
+  -- and put together again
+  pub lies-area : (area : Area) → Lies area → areaOf a break x ≡ area
+  unfolding areaOf if_then_else_
+  lies-area empty z = rw (eq-eqb (x .second) 0 z)
+  lies-area inRam (n, r) = rw (ne-eqb (x .second) 0 n, true-within (a .ramStart) break (x .first) (x .second) (r .0) (r .1))
+  lies-area inFlash (n, q, f) = rw (ne-eqb (x .second) 0 n, false-within (a .ramStart) break (x .first) (x .second) q, true-within (a .flashStart) (a .flashEnd) (x .first) (x .second) (f .0) (f .1))
+  lies-area outside (n, q, f) = rw (ne-eqb (x .second) 0 n, false-within (a .ramStart) break (x .first) (x .second) q, false-within (a .flashStart) (a .flashEnd) (x .first) (x .second) f)
 
-  pub writable-by : holdable readWrite a break x ≡ (isNone || isRam)
-  unfolding holdable areaOf
-  writable-by = area-tests isNone isRam isFlash .0
-
-  pub readable-by : holdable readOnly a break x ≡ (isNone || (isRam || isFlash))
-  unfolding holdable areaOf
-  readable-by = area-tests isNone isRam isFlash .1
-
-  pub ram-by : isInRam (areaOf a break x) ≡ (not isNone && isRam)
-  unfolding areaOf
-  ram-by = area-tests isNone isRam isFlash .2
-
-  -- the area of a buffer that is not empty, by where it lies
-  module _ (some : x .second ≢ 0) where
-    pub area-ram : isRam ≡ true → areaOf a break x ≡ inRam
-    unfolding areaOf if_then_else_
-    area-ram q = rw (ne-eqb (x .second) 0 some, q)
-
-    pub area-flash : isRam ≡ false → isFlash ≡ true → areaOf a break x ≡ inFlash
-    unfolding areaOf if_then_else_
-    area-flash q r = rw (ne-eqb (x .second) 0 some, q, r)
-
-    -- one that a read-only slot may hold and that is not in RAM is in flash
-    pub flash-held : holdable readOnly a break x ≡ true → isRam ≡ false → isFlash ≡ true
-    flash-held e q = or-false isRam isFlash (or-false isNone (isRam || isFlash) (sym readable-by ∙ e) (ne-eqb (x .second) 0 some)) q
+  -- a read-only slot may hold what lies in flash, wherever the break is
+  pub flash-readable : InFlash → accessible readOnly (areaOf a break x) ≡ true
+  unfolding accessible
+  flash-readable f = go (areaOf a break x) area-lies
+    where
+      go : (area : Area) → Lies area → accessible readOnly area ≡ true
+      go empty z = refl
+      go inRam l = refl
+      go inFlash l = refl
+      go outside (n, q, r) = absurd (r f)

@@ -21,7 +21,7 @@ use Rattle.definition.specs.Image.{stateOf, wellFormed}
 use Rattle.definition.specs.Table.{Lent, notImage, wrongImage, worldOf, outOf, tableStep}
 use Rattle.laws.specs.Facts.{clash, either, passed}
 use Rattle.laws.specs.Rows.{part-part, part-length}
-use Rattle.laws.specs.Areas.{Lies, lies-nowhere, lies-ram, lies-flash, area-lies}
+use Rattle.laws.specs.Areas.{Lies, area-lies}
 use Rattle.laws.specs.Slots.{held-holdable}
 use Rattle.laws.specs.Boards.{Placed, placed, few-drivers, few-slots}
 use Rattle.laws.specs.ImageBack.{well-formed-good}
@@ -59,15 +59,15 @@ module _ (p : ℕ) (w : World) (g : Good (w .state)) (size : length (w .memory) 
   part-handed : (x : Pair) (area : Area) (offset n : ℕ) → Placed areas → accessible readOnly area ≡ true → Lies areas (process .break) x area → n ≢ 0 → offset + n ≤ x .second
       → PartHanded w n (partIn (viewOf w p) area (x .first + offset) n)
   unfolding partIn viewOf ramOf part accessible
-  part-handed x empty offset n o e (lies-nowhere z) some h = absurd (omega arith)
-  part-handed x inRam offset n o e (lies-ram _ s t) some h =
+  part-handed x empty offset n o e z some h = absurd (omega arith)
+  part-handed x inRam offset n o e (_, (s, t)) some h =
       let end : process .break ≤ areas .ramEnd = omega (arith, g .each p .high, o .grant-high) in
       let base = o .base in
       let place : areas .ramStart - memoryBase + (x .first + offset - areas .ramStart) ≡ x .first + offset - memoryBase = omega arith in
       handed memory (x .first + offset - memoryBase) n _
       (part-part (areas .ramStart - memoryBase) (areas .ramEnd - areas .ramStart) (x .first + offset - areas .ramStart) n (w .memory) (omega arith) ∙ ap (λ k. take n (drop k (w .memory))) place)
       (omega (arith, o .top))
-  part-handed x inFlash offset n o e (lies-flash _ _ s t) some h = handed flash (x .first + offset - flashBase) n _ refl (omega (arith, o .flash-base, o .flash-top))
+  part-handed x inFlash offset n o e (_, _, (s, t)) some h = handed flash (x .first + offset - flashBase) n _ refl (omega (arith, o .flash-base, o .flash-top))
   part-handed x outside offset n o e l some h = clash e refl
 
   -- a length of 0 touches no address; else the buffer is not empty

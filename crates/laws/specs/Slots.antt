@@ -1,18 +1,18 @@
 -- Slots: where they stand, what they may hold, and what a moved break leaves of that.
-use Prim.Native.Nat.{ℕ, _+_, _*_, _≤_, _<_}
-use mathlib.Core.Path.{_≡_, sym, ap, _∙_, subst}
-use mathlib.Core.Bool.{Bool, true, false}
+use Prim.Native.Nat.{ℕ, _+_, _*_, _<_}
+use mathlib.Core.Path.{_≡_, refl, sym, ap, _∙_, subst}
+use mathlib.Core.Bool.{Bool, true, false, _||_, not}
 use native.Mathlib.Omega.{arith}
 use lib.Dec.{leb, ltb, eqb}
-use borrow.Author.Tests.{leb-true, lt-ltb, le-ltb, ne-eqb}
-use Rattle.definition.specs.Tests.{if_then_else_, within}
+use borrow.Author.Tests.{leb-true, lt-ltb, le-ltb, eqb-true}
+use Rattle.definition.specs.Tests.{if_then_else_}
 use Rattle.definition.specs.Limits.{maxDrivers, maxSlots, kindSlots, allSlots}
 use Rattle.definition.specs.Board.{Board, Areas, Kind, subscribe, readWrite, readOnly, driverAt, slotsOf, hasSlot}
-use Rattle.definition.specs.State.{Pair, null, isNull, kindNumber, slotAt}
-use Rattle.definition.specs.Area.{Area, holdable, clears}
+use Rattle.definition.specs.State.{Pair, isNull, kindNumber, slotAt}
+use Rattle.definition.specs.Area.{Area, empty, inRam, inFlash, outside, areaOf, accessible, holdable, isInRam, clears}
 use Rattle.definition.specs.WellFormed.{kindAt, placeAt, numberAt, goodSlot}
-use Rattle.laws.specs.Facts.{clash, either, both, or-false, or-left, or-then, or-else, within-true, true-within}
-use Rattle.laws.specs.Areas.{isNone, isRam, writable-by, readable-by, ram-by}
+use Rattle.laws.specs.Facts.{clash, either, both, or-left}
+use Rattle.laws.specs.Areas.{InRam, Lies, area-lies, lies-area, flash-readable}
 
 -- ---- where a slot stands
 
@@ -63,11 +63,14 @@ slot-one kind kind′ k j k′ j′ hk hj hk′ hj′ e = record {
 
 -- ---- what a slot may hold
 
+null-empty : (a : Areas) (break : ℕ) (x : Pair) → isNull x ≡ true → areaOf a break x ≡ empty
+null-empty a break x e = lies-area a break x empty (eqb-true _ _ (both (eqb (x .first) 0) (eqb (x .second) 0) e .1))
+
 pub null-holdable : (kind : Kind) (a : Areas) (break : ℕ) (x : Pair) → isNull x ≡ true → holdable kind a break x ≡ true
-unfolding holdable
+unfolding holdable accessible
 null-holdable subscribe a break x e = or-left _ _ (both (eqb (x .first) 0) (eqb (x .second) 0) e .0)
-null-holdable readWrite a break x e = writable-by a break x ∙ or-left _ _ (both (eqb (x .first) 0) (eqb (x .second) 0) e .1)
-null-holdable readOnly a break x e = readable-by a break x ∙ or-left _ _ (both (eqb (x .first) 0) (eqb (x .second) 0) e .1)
+null-holdable readWrite a break x e = ap (accessible readWrite) (null-empty a break x e)
+null-holdable readOnly a break x e = ap (accessible readOnly) (null-empty a break x e)
 
 module _ (b : Board) (a : Areas) (break i : ℕ) where
   pub slot-null : (x : Pair) → isNull x ≡ true → goodSlot b a break i x ≡ true
@@ -113,18 +116,31 @@ held-holdable kind b a break k j x hk hj e = subst (λ n. holdable n a break x �
 -- ---- a buffer, and a break that moves
 
 module _ (a : Areas) (x : Pair) where
-  -- in RAM, not empty, and let move: it ends at the new break or below
-  ram-moved : (break new : ℕ) → clears a break new x ≡ true → isNone a break x ≡ false → isRam a break x ≡ true → isRam a new x ≡ true
-  unfolding clears
-  ram-moved break new e n r = true-within (a .ramStart) new (x .first) (x .second) (within-true (a .ramStart) break (x .first) (x .second) r .0) (leb-true _ _ (rw (ram-by a break x, n, r) at e))
+  -- where the break moves that a buffer lets move, memory that was accessible there still is: in RAM the buffer ends at the new break or below
+  accessible-moved : (kind : Kind) (break new : ℕ) (area : Area) → Lies a break x area → (not (isInRam area) || leb (x .first + x .second) new) ≡ true → accessible kind area ≡ true → accessible kind (areaOf a new x) ≡ true
+  unfolding accessible
+  accessible-moved kind break new empty z e h = ap (accessible kind) (lies-area a new x empty z) ∙ h
+  accessible-moved kind break new inRam (n, r) e h = ap (accessible kind) (lies-area a new x inRam (n, (r .0, leb-true _ _ e))) ∙ h
+  accessible-moved subscribe break new inFlash l e h = refl
+  accessible-moved readWrite break new inFlash l e h = clash {t = false} h refl
+  accessible-moved readOnly break new inFlash (n, q, f) e h = flash-readable a new x f
+  accessible-moved subscribe break new outside l e h = refl
+  accessible-moved readWrite break new outside l e h = clash {t = false} h refl
+  accessible-moved readOnly break new outside l e h = clash {t = false} h refl
 
-  -- what a slot may hold, it may hold under a break that it lets move
   pub moved-holdable : (kind : Kind) (break new : ℕ) → clears a break new x ≡ true → holdable kind a break x ≡ true → holdable kind a new x ≡ true
-  unfolding holdable
+  unfolding holdable clears
   moved-holdable subscribe break new e h = h
-  moved-holdable readWrite break new e h = writable-by a new x ∙ or-then _ _ _ (ram-moved break new e) (sym (writable-by a break x) ∙ h)
-  moved-holdable readOnly break new e h = readable-by a new x ∙ or-then _ _ _ (λ n. or-else _ _ _ (ram-moved break new e n)) (sym (readable-by a break x) ∙ h)
+  moved-holdable readWrite break new e h = accessible-moved readWrite break new (areaOf a break x) (area-lies a break x) e h
+  moved-holdable readOnly break new e h = accessible-moved readOnly break new (areaOf a break x) (area-lies a break x) e h
 
   -- a non-empty read-write buffer lies in RAM below the break
-  pub writable-inside : (break : ℕ) → holdable readWrite a break x ≡ true → 0 < x .second → (a .ramStart ≤ x .first) × (x .first + x .second ≤ break)
-  writable-inside break e h = within-true (a .ramStart) break (x .first) (x .second) (or-false _ _ (sym (writable-by a break x) ∙ e) (ne-eqb (x .second) 0 (λ z. omega arith)))
+  pub writable-inside : (break : ℕ) → holdable readWrite a break x ≡ true → 0 < x .second → InRam a break x
+  unfolding holdable accessible
+  writable-inside break e h = go (areaOf a break x) (area-lies a break x) e
+    where
+      go : (area : Area) → Lies a break x area → accessible readWrite area ≡ true → InRam a break x
+      go empty z e = absurd (omega arith)
+      go inRam (n, r) e = r
+      go inFlash l e = clash {t = false} e refl
+      go outside l e = clash {t = false} e refl

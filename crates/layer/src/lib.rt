@@ -4,12 +4,15 @@ ghost use Rattle.definition.specs.Answer.{numberOf};
 ghost use Rattle.definition.specs.Decide.{call, event, resume, deposit, fetch};
 ghost use Rattle.definition.specs.World.{own, latch};
 ghost use Rattle.definition.specs.Table.{tableStep};
+ghost use Rattle.definition.specs.Located.{locate};
 ghost use Rattle.definition.specs.Signed.{wordOf};
-ghost use Rattle.types.specs.Meaning.{answerOf};
+ghost use Rattle.types.specs.Meaning.{kindOf, answerOf};
 ghost use Rattle.layer.specs.Steps.{lent, Makes, MakesAlone, Starts};
 ghost use Rattle.layer.specs.Fetching.{partOf, IsPart, Lies, Finds};
+ghost use Rattle.layer.specs.Asking.{locatedOf};
 ghost use Rattle.layer.specs.Replaying.{Plays};
 
+mod buffers;
 mod fetches;
 mod known;
 mod refusals;
@@ -20,8 +23,11 @@ mod work;
 use table::starts;
 use table_check::checks;
 use types::Answer;
+use types::Area;
 use types::Driver;
 use types::Image;
+use types::Kind;
+use types::Pair;
 use types::Process;
 use types::Registers;
 
@@ -36,6 +42,18 @@ pub struct Place {
 pub struct Fetched {
     pub number: u32,
     pub place: Place,
+}
+
+// A held buffer: where it lies, and its address and size.
+struct Buffer {
+    area: Area,
+    pair: Pair,
+}
+
+// Where a held buffer lies, with its address and size; or the number that the question is refused with.
+pub enum Located {
+    Refused(u32),
+    Lies(Area, Pair),
 }
 
 // How far a run over a trace has come: it has ended, with so many bytes written; or it has paused for want of room before what stands at a
@@ -200,6 +218,16 @@ pub fn latch(table: &mut [u32], driver: Driver, peak: i32) -> Answer
 {
     let formed = checks::well_formed(table);
     steps::latch(table, formed, driver, peak)
+}
+
+// Where the buffer lies that a process holds in a slot. It is no step: any table is only read.
+pub fn area(table: &[u32], process: Process, kind: Kind, driver: Driver, slot: u32) -> Located
+    ensures { λ r. ⌜ locatedOf r ≡ locate (kindOf kind) (process .0) (driver .0) slot (now (table .entry)) ⌝ }
+{
+    if !checks::well_formed(table) {
+        return Located::Refused(2);
+    }
+    buffers::locate(table, process, kind, driver, slot)
 }
 
 // The run over a trace from a place on: 0 for all of it, or the place at which it has paused, with the table and the images as it left them.

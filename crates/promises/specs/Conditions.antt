@@ -2,7 +2,7 @@
 -- is running, and at which place a driver stands.
 use Prim.Native.Nat.{ℕ, _+_, _-_, _/_, _%_, _^_, _≤_, _<_}
 use mathlib.Core.Path.{_≡_, refl, sym, ap, subst}
-use mathlib.Core.Logic.{_↔_, _≢_, inl, inr, Iff·trans}
+use mathlib.Core.Logic.{_↔_, _≢_, _⊎_, inl, inr, Iff·trans}
 use mathlib.Core.Bool.{true, false, not}
 use native.Mathlib.Omega.{arith}
 use lib.ListN.{length}
@@ -13,31 +13,57 @@ use Rattle.definition.specs.Board.{Areas, Kind, subscribe, readWrite, readOnly,
 use Rattle.definition.specs.State.{Pair, Status, running, waiting, exited, isExited, isWaiting, Process}
 use Rattle.definition.specs.Answer.{Answer}
 use Rattle.definition.specs.Call.{pair, decode}
-use Rattle.definition.specs.Area.{areaOf, holdable, accepts, isInRam, clears}
+use Rattle.definition.specs.Area.{Area, empty, inRam, inFlash, outside, areaOf, accessible, holdable, accepts, isInRam, clears}
 use Rattle.definition.specs.Decide.{call, resume, Outcome, decideCall, decideAccepted, refusal, decide}
 use Rattle.definition.specs.World.{World, answerOf, viewOf, perform, step}
 use Rattle.definition.specs.WellFormed.{goodState}
 use Rattle.laws.specs.Facts.{clash, each-holds, passed, pass, pass-none}
-use Rattle.laws.specs.Areas.{writable-by, readable-by, ram-by}
+use Rattle.laws.specs.Areas.{Lies as At, area-lies}
 use Rattle.laws.specs.Places.{place-number, number-place}
 use Rattle.promises.specs.Accepted.{areasIn, processIn, bufferIn, answerTo, IsRunning, Permitted, Lies, MayHold, BreakMoves, MovedBy}
-use Rattle.promises.specs.Told.{Tells, le-told, eq-told, within-told, contains-told, not-told, and-told, or-told, implies-told}
+use Rattle.promises.specs.Told.{Tells, le-told, eq-told, contains-told, or-told, implies-told}
 
 -- ---- what a slot may hold, and when the break may move
+
+-- a range of bytes, as a pair of numbers has it
+pub lies-of : {low high address size : ℕ} → (low ≤ address) × (address + size ≤ high) → Lies low high address size
+lies-of (low, high) = record { above = low; below = high }
+
+pub of-lies : {low high address size : ℕ} → Lies low high address size → (low ≤ address) × (address + size ≤ high)
+of-lies l = (l .above, l .below)
+
+-- by the numbers of its area
+writable-told : (a : Areas) (break x y : ℕ) (area : Area) → At a break (pair x y) area → Tells (accessible readWrite area) ((y ≡ 0) ⊎ Lies (a .ramStart) break x y)
+unfolding accessible
+writable-told a break x y empty z = (λ e. inl z, λ h. refl)
+writable-told a break x y inRam (n, r) = (λ e. inr (lies-of r), λ h. refl)
+writable-told a break x y inFlash (n, q, f) = (λ e. clash {t = false} e refl, λ h. elim h [ inl z ↦ absurd (n z) | inr l ↦ absurd (q (of-lies l)) ])
+writable-told a break x y outside (n, q, f) = (λ e. clash {t = false} e refl, λ h. elim h [ inl z ↦ absurd (n z) | inr l ↦ absurd (q (of-lies l)) ])
+
+readable-told : (a : Areas) (break x y : ℕ) (area : Area) → At a break (pair x y) area → Tells (accessible readOnly area) ((y ≡ 0) ⊎ Lies (a .ramStart) break x y ⊎ Lies (a .flashStart) (a .flashEnd) x y)
+unfolding accessible
+readable-told a break x y empty z = (λ e. inl z, λ h. refl)
+readable-told a break x y inRam (n, r) = (λ e. inr (inl (lies-of r)), λ h. refl)
+readable-told a break x y inFlash (n, q, f) = (λ e. inr (inr (lies-of f)), λ h. refl)
+readable-told a break x y outside (n, q, f) = (λ e. clash {t = false} e refl, λ h. elim h [ inl z ↦ absurd (n z) | inr (inl l) ↦ absurd (q (of-lies l)) | inr (inr l) ↦ absurd (f (of-lies l)) ])
 
 pub accepts-told : (kind : Kind) (a : Areas) (process : Process) (x y : ℕ) → Tells (accepts kind a process (pair x y)) (MayHold kind a (process .break) x y)
 unfolding accepts holdable
 accepts-told subscribe a process x y = or-told _ _ (eq-told x 0) (contains-told _ _ _)
-accepts-told readWrite a process x y = rw (writable-by a (process .break) (pair x y)) (or-told _ _ (eq-told y 0) (within-told _ _ _ _))
-accepts-told readOnly a process x y = rw (readable-by a (process .break) (pair x y)) (or-told _ _ (eq-told y 0) (or-told _ _ (within-told _ _ _ _) (within-told _ _ _ _)))
+accepts-told readWrite a process x y = writable-told a (process .break) x y _ (area-lies a (process .break) (pair x y))
+accepts-told readOnly a process x y = readable-told a (process .break) x y _ (area-lies a (process .break) (pair x y))
+
+in-ram-told : (a : Areas) (break : ℕ) (x : Pair) (area : Area) → At a break x area → Tells (isInRam area) ((x .second ≢ 0) × Lies (a .ramStart) break (x .first) (x .second))
+in-ram-told a break x empty z = (λ e. clash {t = false} e refl, λ (n, l). absurd (n z))
+in-ram-told a break x inRam (n, r) = (λ e. (n, lies-of r), λ h. refl)
+in-ram-told a break x inFlash (n, q, f) = (λ e. clash {t = false} e refl, λ (m, l). absurd (q (of-lies l)))
+in-ram-told a break x outside (n, q, f) = (λ e. clash {t = false} e refl, λ (m, l). absurd (q (of-lies l)))
 
 pub clears-told : (a : Areas) (break new : ℕ) (x : Pair)
     → Tells (clears a break new x) (x .second ≢ 0 → Lies (a .ramStart) break (x .first) (x .second) → x .first + x .second ≤ new)
 unfolding clears
-clears-told a break new x = Iff·trans (implies-told _ _ in-ram (le-told (x .first + x .second) new)) (λ f n l. f (n, l), λ f h. f (h .0) (h .1))
-  where
-    in-ram : Tells (isInRam (areaOf a break x)) ((x .second ≢ 0) × Lies (a .ramStart) break (x .first) (x .second))
-    in-ram = rw (ram-by a break x) (and-told _ _ (not-told _ (eq-told (x .second) 0)) (within-told _ _ _ _))
+clears-told a break new x =
+    Iff·trans (implies-told _ _ (in-ram-told a break x (areaOf a break x) (area-lies a break x)) (le-told (x .first + x .second) new)) (λ f n l. f (n, l), λ f h. f (h .0) (h .1))
 
 -- ---- the process, the driver and the break, as the conditions have them
 

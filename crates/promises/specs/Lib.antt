@@ -1,6 +1,7 @@
 -- ---- what is promised: to be believed
 pub mod History
 pub mod Accepted
+pub mod WhichArea
 pub mod Promises
 pub mod LayerPromises
 pub mod Layers
@@ -9,6 +10,8 @@ pub mod Told
 pub mod Conditions
 pub mod Decodes
 pub mod AcceptedExactly
+-- ---- where a buffer lies
+pub mod AreaExactly
 -- ---- demand 3
 pub mod Guarded
 pub mod Isolation
@@ -29,6 +32,7 @@ pub mod Wrong
 pub mod Begins
 pub mod Refuted
 pub mod WrongReader
+pub mod WrongAreas
 -- ---- wrong answers of each public function, refuted by its statement
 pub mod WrongAnswers
 pub mod WrongWords

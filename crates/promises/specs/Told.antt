@@ -7,8 +7,8 @@ use mathlib.Core.List.{List, [], _∷_}
 use native.Mathlib.Omega.{arith}
 use lib.Dec.{leb, ltb, eqb}
 use borrow.Author.Tests.{leb-true, ltb-true, eqb-true, le-leb, lt-ltb, eq-eqb}
-use Rattle.definition.specs.Tests.{if_then_else_, allOf, everyBelow, contains, within}
-use Rattle.laws.specs.Facts.{clash, both, and, implied, implies, below-at, at-below, within-true, true-within, contains-true, true-contains}
+use Rattle.definition.specs.Tests.{if_then_else_, allOf, everyBelow, contains}
+use Rattle.laws.specs.Facts.{clash, both, and, implied, implies, below-at, at-below, contains-true, true-contains}
 use Rattle.promises.specs.Accepted.{Lies}
 
 -- a test holds exactly if a proposition does
@@ -24,10 +24,6 @@ lt-told a b = (ltb-true a b, lt-ltb a b)
 pub eq-told : (a b : ℕ) → Tells (eqb a b) (a ≡ b)
 eq-told a b = (eqb-true a b, eq-eqb a b)
 
-pub within-told : (low high address size : ℕ) → Tells (within low high address size) (Lies low high address size)
-within-told low high address size =
-    (λ e. let (p, q) = within-true low high address size e in record { above = p; below = q }, λ l. true-within low high address size (l .above) (l .below))
-
 pub contains-told : (low high address : ℕ) → Tells (contains low high address) (Lies low high address 1)
 contains-told low high address =
     (λ e. let (p, q) = contains-true low high address e in record { above = p; below = omega arith }, λ l. true-contains low high address (l .above) (omega arith))
@@ -38,7 +34,7 @@ module _ {P : Type 0} where
   not-told false f = (λ e p. clash (f .1 p) refl, λ n. refl)
 
 module _ {P Q : Type 0} where
-  pub and-told : (s t : Bool) → Tells s P → Tells t Q → Tells (s && t) (P × Q)
+  and-told : (s t : Bool) → Tells s P → Tells t Q → Tells (s && t) (P × Q)
   and-told s t f g = (λ e. let (a, b) = both s t e in (f .0 a, g .0 b), λ h. and (f .1 (h .0)) (g .1 (h .1)))
 
   pub or-told : (s t : Bool) → Tells s P → Tells t Q → Tells (s || t) (P ⊎ Q)

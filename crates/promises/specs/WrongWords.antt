@@ -11,15 +11,17 @@ use Rattle.definition.specs.Decide.{resume}
 use Rattle.definition.specs.World.{Step, own, latch, Out}
 use Rattle.definition.specs.Image.{wellFormed}
 use Rattle.definition.specs.Table.{Lent, lentOf, tableStep, start}
+use Rattle.definition.specs.Located.{locate, lentBy}
 use Rattle.definition.specs.Cases.{zeros}
+use Rattle.definition.specs.AreaCases.{lent as flashLent}
 use Rattle.laws.specs.Facts.{clash}
 use Rattle.laws.specs.Good.{of-good}
 use Rattle.laws.specs.ImageBack.{image-well-formed}
 use Rattle.layer.specs.Steps.{gave}
-use Rattle.host.specs.Answers.{answerWords, Told, told, tell, Writes, WritesAlone, WritesOnly}
+use Rattle.host.specs.Answers.{answerWords, locatedWords, Told, told, tell, Writes, WritesAlone, WritesOnly, answered}
 use Rattle.host.specs.Runs.{RunTold, NotRun, Runs}
 use Rattle.promises.specs.Begins.{words, ready, begins, subscribes, lends}
-use Rattle.promises.specs.WrongAnswers.{at, tableAt, memoryAt, good-at, Given, subscribes-unstored, events, events-unqueued, pending, resumes-keeps, deposits, deposits-unwritten, latches-unstored, reads, shows, two-read}
+use Rattle.promises.specs.WrongAnswers.{at, tableAt, memoryAt, good-at, Given, subscribes-unstored, events, events-unqueued, pending, resumes-keeps, deposits, deposits-unwritten, latches-unstored, reads, shows, two-read, flash-told}
 
 -- ---- any export that tells an answer, whatever is lent
 
@@ -84,6 +86,38 @@ module _ (r : Bool) (out out′ : List ℕ) (room : leb 6 (length out) ≡ true)
   pub mk-start-refuses : (t′ : List ℕ) → (getD out′ 0 0 ≡ 8 → ⊥) → ¬ WritesAlone (start words) (zeros .table) out r t′ out′
   mk-start-refuses t′ other e =
       other (ap (λ l. getD l 0 0) (sym (words-told (start words) zeros _ r out out′ (e _ _) room)) ∙ ap (λ a. getD (answerWords a ++ drop 6 out) 0 0) begins)
+
+-- ---- where a buffer lies
+
+-- with room for six words the words of any other answer, or false; with less anything written, or true
+module _ (words out out′ : List ℕ) (r : Bool) (e : answered words out ≡ (r, out′)) where
+  module _ (room : leb 6 (length out) ≡ true) where
+    asked-whole : _≡_ {A = Bool × List ℕ} (true, words ++ drop 6 out) (r, out′)
+    unfolding answered if_then_else_
+    asked-whole = sym (rw room) ∙ e
+
+    pub asked-told : words ++ drop 6 out ≡ out′
+    asked-told = ap (λ (o : Bool × List ℕ). o .1) asked-whole
+
+    pub asked-not-silent : r ≡ false → ⊥
+    asked-not-silent f = clash (sym (ap (λ (o : Bool × List ℕ). o .0) asked-whole)) f
+
+  module _ (short : leb 6 (length out) ≡ false) where
+    asked-none : _≡_ {A = Bool × List ℕ} (false, out) (r, out′)
+    unfolding answered if_then_else_
+    asked-none = sym (rw short) ∙ e
+
+    pub asked-nothing-written : out ≡ out′
+    asked-nothing-written = ap (λ (o : Bool × List ℕ). o .1) asked-none
+
+    pub asked-nothing-told : r ≡ true → ⊥
+    asked-nothing-told t = clash t (sym (ap (λ (o : Bool × List ℕ). o .0) asked-none))
+
+-- process 0's buffer in flash is said to lie anywhere else
+pub mk-area-elsewhere : (r : Bool) (out out′ : List ℕ) → leb 6 (length out) ≡ true → (getD out′ 1 0 ≡ 2 → ⊥) → ¬ (answered (locatedWords (locate (lentBy 4) 0 1 0 flashLent)) out ≡ (r, out′))
+unfolding if_then_else_
+mk-area-elsewhere r out out′ room other e =
+    other (ap (λ l. getD l 1 0) (sym (asked-told _ out out′ r e room)) ∙ ap (λ a. getD (locatedWords a ++ drop 6 out) 1 0) flash-told)
 
 -- ---- the check of a table
 

@@ -51,6 +51,9 @@ fn tell(layer: &mut Layer, console: &mut Console) -> fmt::Result {
         let process = Process(process);
         let lent = layer.call(process, Class::READ_WRITE_ALLOW, [RECEIVER.0, 0, address, size]);
         writeln!(console, "process {} lends {size} bytes at 0x{address:08X}: {lent}", process.0)?;
+        if let Ok(held) = layer.area(process, Class::READ_WRITE_ALLOW, RECEIVER, 0) {
+            writeln!(console, "it holds {} bytes: {}", held.size, held.area)?;
+        }
         let filled = layer.deposit(process, RECEIVER, 0, 12, b"GPS!");
         writeln!(console, "a driver fills its last four: {filled}")?;
     }

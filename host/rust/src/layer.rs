@@ -1,14 +1,15 @@
-//! What a host owns, with the steps as methods.
+//! What a host owns, with the steps and the question as methods.
 
 use core::fmt;
 #[cfg(feature = "std")]
 use std::{boxed::Box, io};
 
 use crate::{
-    steps, Answer, Class, Driver, Process, Progress, Refusal, Registers, IMAGE_BYTES, TABLE_WORDS,
+    steps, Answer, Class, Driver, Held, Process, Progress, Refusal, Registers, IMAGE_BYTES,
+    TABLE_WORDS,
 };
 
-/// A table and two images, with the steps as methods.
+/// A table and two images, with the steps and the question as methods.
 ///
 /// It is plain arrays, some 150,000 bytes: `Layer::started` puts it on the heap, and a kernel without one has it as a `static`, by
 /// [`Layer::new`]. Only steps change the table, so once it is started no step is refused for its table or an image
@@ -173,6 +174,21 @@ impl Layer {
     #[must_use]
     pub fn latch(&mut self, driver: Driver, peak: i32) -> Answer {
         steps::latch(&mut self.table, driver, peak)
+    }
+
+    /// Where the buffer lies that a process holds in a slot of a driver, as the function [`area`](crate::area) tells it.
+    ///
+    /// # Errors
+    ///
+    /// There is no such process, driver or slot; or the layer is not started.
+    pub fn area(
+        &self,
+        process: Process,
+        class: Class,
+        driver: Driver,
+        slot: u32,
+    ) -> Result<Held, Refusal> {
+        steps::area(&self.table, process, class, driver, slot)
     }
 
     /// The run over a trace, from the place `at` on, as the function [`replay`](crate::replay) makes it. From place 0 on it begins with the

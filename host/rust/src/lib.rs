@@ -1,10 +1,11 @@
 //! The proved layer for a Rust host: a system call layer with Tock's interface (TRD 104).
 //!
 //! [`Layer`] owns what the layer works on, a table of [`TABLE_WORDS`] words and two images of [`IMAGE_BYTES`] bytes, and its methods are the
-//! steps: start, call, event, resume, deposit, fetch and latch. Here process 0 lends a buffer whose end wraps in 32 bits, which is refused:
+//! steps: start, call, event, resume, deposit, fetch and latch; and a question, [`Layer::area`]: where a buffer that a process holds lies.
+//! Here process 0 lends a buffer whose end wraps in 32 bits, which is refused:
 //!
 //! ```
-//! use makvluria::{Class, Driver, ErrorCode, Layer, Process, Refusal, Returned};
+//! use makvluria::{Area, Class, Driver, ErrorCode, Layer, Process, Refusal, Returned};
 //!
 //! const RECEIVER: Driver = Driver(0x9_0001);
 //!
@@ -25,14 +26,16 @@
 //! );
 //!
 //! // Nothing is lent, so there is no place for a driver's bytes.
+//! let held = layer.area(Process(0), Class::READ_WRITE_ALLOW, RECEIVER, 0)?;
+//! assert_eq!(held.area, Area::Empty);
 //! let answer = layer.deposit(Process(0), RECEIVER, 0, 0, b"fix");
 //! assert_eq!(answer.accepted(), Err(Refusal::PastTheBuffer));
 //! # Ok::<(), Refusal>(())
 //! ```
 //!
-//! Beside it stands a function for each step, over slices that the host lends ([`start`], [`call()`] and so on), for a kernel whose memory
-//! is not an array of its own. Any slice may be lent: what does not fit is refused by number, and a refusal changes nothing. [`replay`] makes
-//! the steps of a whole trace.
+//! Beside it stands a function for each step and for the question, over slices that the host lends ([`start`], [`call()`] and so on,
+//! [`area`]), for a kernel whose memory is not an array of its own. Any slice may be lent: what does not fit is refused by number, and a
+//! refusal changes nothing. [`replay`] makes the steps of a whole trace.
 //!
 //! The crate is `no_std`. The feature `std`, on by default, brings what allocates or writes to an `io::Write`: `Layer::started` and the two
 //! `replay_all`. `build.rs` says where the proved library comes from, and the variable `MAKVLURIA_LIB` names another place for it.
@@ -44,6 +47,7 @@
 extern crate std;
 
 mod answer;
+mod held;
 mod layer;
 mod names;
 pub mod raw;
@@ -51,12 +55,13 @@ mod returned;
 mod steps;
 
 pub use answer::{Answer, Image, Progress};
+pub use held::{Area, Held};
 pub use layer::Layer;
 pub use names::{Class, ErrorCode, Refusal, ReturnVariant};
 pub use returned::{Registers, Returned};
 #[cfg(feature = "std")]
 pub use steps::replay_all;
-pub use steps::{call, deposit, event, fetch, is_well_formed, latch, replay, resume, start};
+pub use steps::{area, call, deposit, event, fetch, is_well_formed, latch, replay, resume, start};
 
 /// How many words a table has, for every board.
 pub const TABLE_WORDS: usize = 4162;

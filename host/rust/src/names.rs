@@ -78,8 +78,8 @@ macro_rules! numbered {
 }
 
 numbered! {
-    /// Why a step is refused. The first that applies is given, in this order but for [`Refusal::NullUpcall`], which stands before
-    /// [`Refusal::QueueFull`]. A refusal changes nothing.
+    /// Why a step or a question is refused. The first that applies is given, in this order but for [`Refusal::NullUpcall`], which stands
+    /// before [`Refusal::QueueFull`]. A refusal changes nothing.
     ///
     /// It is an error, and says its number and its reason:
     ///
@@ -100,9 +100,10 @@ numbered! {
         ProcessExited = 4 "the process has exited",
         ProcessWaits = 5 "call by a waiting process",
         ProcessRuns = 6 "resume of a running process",
-        /// For an event, a deposit, a fetch or a latch; a call is answered NODEVICE.
+        /// For an event, a deposit, a fetch, a latch or a question; a call is answered NODEVICE.
         NoDriver = 7 "driver not installed",
-        /// An event names a subscribe slot, a deposit a read-write one, a fetch a read-only one; a call is answered NOSUPPORT.
+        /// An event names a subscribe slot, a deposit a read-write one, a fetch a read-only one, a question one of these two; a call is
+        /// answered NOSUPPORT.
         NoSlot = 8 "no such slot",
         /// The sum is taken exactly.
         PastTheBuffer = 9 "offset + length exceeds the held size",

@@ -1,5 +1,5 @@
-//! The exports as they are, but for the types of a process and a driver: a step writes its answer into the first six words of `out`, a run
-//! how far it came into the first three, and it gives true; where `out` is shorter it does nothing and gives false.
+//! The exports as they are, but for the types of a process and a driver: a step or a question writes its answer into the first six words of
+//! `out`, a run how far it came into the first three, and it gives true; where `out` is shorter it does nothing and gives false.
 //!
 //! Every call here is safe: the library is proved for any numbers and slices, Rust's slices are valid, and those that are lent to be
 //! written are borrowed apart from all others.
@@ -87,6 +87,16 @@ mod exports {
             words: usize,
             driver: u32,
             peak: i32,
+            out: *mut u32,
+            out_words: usize,
+        ) -> bool;
+        pub fn mk_area(
+            table: *const u32,
+            words: usize,
+            process: u32,
+            class: u8,
+            driver: u32,
+            slot: u32,
             out: *mut u32,
             out_words: usize,
         ) -> bool;
@@ -246,6 +256,28 @@ pub fn latch(table: &mut [u32], driver: Driver, peak: i32, out: &mut [u32]) -> b
             table.len(),
             driver.0,
             peak,
+            out.as_mut_ptr(),
+            out.len(),
+        )
+    }
+}
+
+pub fn area(
+    table: &[u32],
+    process: Process,
+    class: u8,
+    driver: Driver,
+    slot: u32,
+    out: &mut [u32],
+) -> bool {
+    unsafe {
+        exports::mk_area(
+            table.as_ptr(),
+            table.len(),
+            process.0,
+            class,
+            driver.0,
+            slot,
             out.as_mut_ptr(),
             out.len(),
         )

@@ -1,4 +1,4 @@
-//! The steps and the run over a trace, on what the host owns and lends. An answer is `must_use`, as any step may be refused.
+//! The steps, the question and the run over a trace, on what the host owns and lends. An answer is `must_use`, as any step may be refused.
 
 #[cfg(feature = "std")]
 use std::{
@@ -6,13 +6,20 @@ use std::{
     vec,
 };
 
-use crate::{raw, Answer, Class, Driver, Process, Progress, Registers, ANSWER_WORDS, RUN_WORDS};
+use crate::{
+    raw, Answer, Class, Driver, Held, Process, Progress, Refusal, Registers, ANSWER_WORDS,
+    RUN_WORDS,
+};
 
-/// Lends six words to a step, and reads what it left there.
-fn answer(step: impl FnOnce(&mut [u32]) -> bool) -> Answer {
+/// Lends six words to a step or a question, and gives what it left there.
+fn told(step: impl FnOnce(&mut [u32]) -> bool) -> [u32; ANSWER_WORDS] {
     let mut words = [0; ANSWER_WORDS];
     assert!(step(&mut words), "six words are room enough");
-    Answer::decode(words).expect("the layer tells no other words")
+    words
+}
+
+fn answer(step: impl FnOnce(&mut [u32]) -> bool) -> Answer {
+    Answer::decode(told(step)).expect("the layer tells no other words")
 }
 
 /// Whether the words are a table: the image of a state with a good board.
@@ -125,6 +132,41 @@ pub fn fetch(
 #[must_use]
 pub fn latch(table: &mut [u32], driver: Driver, peak: i32) -> Answer {
     answer(|out| raw::latch(table, driver, peak, out))
+}
+
+/// Where the buffer lies that a process holds in a slot of a driver. The class is that of the allow that lends it,
+/// [`Class::READ_WRITE_ALLOW`] or [`Class::READ_ONLY_ALLOW`]. It is no step: the table is only read, and an exited process, which holds no
+/// buffer, can be asked about too.
+///
+/// # Errors
+///
+/// The table is not well formed, or there is no such process, driver or slot; a driver has no buffers of any other class.
+///
+/// ```
+/// use makvluria::{area, Area, Class, Driver, Held, Layer, Process, Refusal};
+///
+/// #[rustfmt::skip]
+/// let board = [
+///     1, 0x2000_0000, 0x2000_2000, 0x2000_1800, 0x2000_1000, 0x0004_0000, 0x0004_4000, 1,
+///     1, 5, 0, 0, 1, 0,
+/// ];
+/// let mut layer = Layer::started(&board)?;
+/// layer.call(Process(0), Class::READ_ONLY_ALLOW, [5, 0, 0x0004_0100, 3]).accepted()?;
+/// let held = area(layer.table(), Process(0), Class::READ_ONLY_ALLOW, Driver(5), 0);
+/// assert_eq!(held, Ok(Held { area: Area::Flash, address: 0x0004_0100, size: 3 }));
+/// let held = area(layer.table(), Process(0), Class::READ_WRITE_ALLOW, Driver(5), 0);
+/// assert_eq!(held, Err(Refusal::NoSlot));
+/// # Ok::<(), Refusal>(())
+/// ```
+pub fn area(
+    table: &[u32],
+    process: Process,
+    class: Class,
+    driver: Driver,
+    slot: u32,
+) -> Result<Held, Refusal> {
+    let words = told(|out| raw::area(table, process, class.0, driver, slot, out));
+    Held::decode(words).expect("the layer tells no other words")
 }
 
 /// The run over a trace, from the place `at` on: 0 for all of it, from the board on; or the place at which it paused, with the table and

@@ -3,8 +3,9 @@
 mod run;
 
 use makvluria::{
-    call, deposit, event, fetch, is_well_formed, latch, raw, replay, replay_all, resume, start,
-    Answer, Class, Driver, Image, Process, Progress, Refusal, IMAGE_BYTES, TABLE_WORDS,
+    area, call, deposit, event, fetch, is_well_formed, latch, raw, replay, replay_all, resume,
+    start, Answer, Area, Class, Driver, Held, Image, Process, Progress, Refusal, IMAGE_BYTES,
+    TABLE_WORDS,
 };
 
 /// The board of document 01's cases: two processes, an unshared driver 1 and a shared driver 0x90000.
@@ -70,6 +71,11 @@ impl Host {
         assert_eq!(self.call(FIRST, class, registers), Answer::Registers(answer));
     }
 
+    /// Where the read-only buffer of a process lies.
+    fn area(&self, process: Process) -> Result<Held, Refusal> {
+        area(&self.table, process, Class::READ_ONLY_ALLOW, UNSHARED, 0)
+    }
+
     /// Every step of a process on what is here, with what it answers.
     fn all_steps(&mut self, process: Process) -> [Answer; 5] {
         [
@@ -96,6 +102,7 @@ fn a_short_answer_slice_stops_every_step() {
         assert!(!raw::deposit(&table, &mut memory, FIRST, UNSHARED, 0, 0, b"bytes", out));
         assert!(!raw::fetch(&table, &memory, &flash, FIRST, UNSHARED, 0, 0, 1, out));
         assert!(!raw::latch(&mut table, SHARED, -1, out));
+        assert!(!raw::area(&table, FIRST, Class::READ_ONLY_ALLOW.0, UNSHARED, 0, out));
         assert!(before == Host { table, memory, flash });
         assert_eq!(words, [77; 6]);
     }
@@ -107,6 +114,8 @@ fn a_longer_answer_slice_keeps_the_rest() {
     let mut words = [77; 9];
     assert!(raw::latch(&mut host.table, SHARED, -1, &mut words));
     assert_eq!(words, [7, 0, 0, 0, 0, 0, 77, 77, 77]);
+    assert!(raw::area(&host.table, FIRST, Class::READ_ONLY_ALLOW.0, SHARED, 0, &mut words));
+    assert_eq!(words, [0, 8, 0, 0, 0, 0, 77, 77, 77]);
 }
 
 #[test]
@@ -152,6 +161,7 @@ fn tables_of_another_length_are_refused_with_2() {
         assert_eq!(start(&mut host.table, &[]), Answer::Refused(Refusal::NoTable));
         assert_eq!(host.all_steps(FIRST), [Answer::Refused(Refusal::NoTable); 5]);
         assert_eq!(latch(&mut host.table, SHARED, 1), Answer::Refused(Refusal::NoTable));
+        assert_eq!(host.area(FIRST), Err(Refusal::NoTable));
         assert!(before == host);
     }
 }
@@ -175,6 +185,7 @@ fn a_changed_word_is_refused_with_2_or_makes_another_table() {
                 Answer::Refused(Refusal::NoTable),
                 "word {at}"
             );
+            assert_eq!(host.area(FIRST), Err(Refusal::NoTable), "word {at}");
             assert!(before == host, "word {at}");
         }
     }
@@ -187,6 +198,7 @@ fn no_such_process_is_refused_with_3() {
     let before = host.clone();
     for process in [2, 8, u32::MAX].map(Process) {
         assert_eq!(host.all_steps(process), [Answer::Refused(Refusal::NoProcess); 5]);
+        assert_eq!(host.area(process), Err(Refusal::NoProcess));
     }
     assert!(before == host);
 }
@@ -306,6 +318,41 @@ fn a_fetch_says_where_its_part_lies() {
 }
 
 #[test]
+fn a_question_may_have_any_numbers() {
+    let host = Host::busy();
+    let before = host.clone();
+    let numbers = [0, 1, 2, 3, 4, 7, 8, 0x9_0000, 0x7FFF_FFFF, 0x8000_0000, u32::MAX];
+    for class in (0..=u8::MAX).map(Class) {
+        for process in numbers {
+            for driver in numbers {
+                for slot in numbers {
+                    let asked = (process, class, driver, slot);
+                    let told = area(&host.table, Process(process), class, Driver(driver), slot);
+                    assert_eq!(told, told_of_busy(asked), "{asked:?}");
+                }
+            }
+        }
+    }
+    assert!(before == host);
+}
+
+/// Where the buffers of `Host::busy` lie.
+fn told_of_busy(asked: (u32, Class, u32, u32)) -> Result<Held, Refusal> {
+    const READ_WRITE: Class = Class::READ_WRITE_ALLOW;
+    const READ_ONLY: Class = Class::READ_ONLY_ALLOW;
+    match asked {
+        (2.., ..) => Err(Refusal::NoProcess),
+        (_, _, 0 | 2..=0x8_FFFF | 0x9_0001.., _) => Err(Refusal::NoDriver),
+        (0, READ_WRITE, 1, 0) => Ok(Held { area: Area::Ram, address: 0x2000_0100, size: 16 }),
+        (0, READ_ONLY, 1, 0) => Ok(Held { area: Area::Flash, address: 0x0004_3FF0, size: 16 }),
+        (_, READ_WRITE, _, 0) | (_, READ_ONLY, 1, 0) => {
+            Ok(Held { area: Area::Empty, address: 0, size: 0 })
+        }
+        _ => Err(Refusal::NoSlot),
+    }
+}
+
+#[test]
 fn a_peak_below_zero_is_a_value() {
     let mut host = Host::fresh();
     for peak in [-1, i32::MIN, i32::MAX, 0] {
@@ -368,5 +415,22 @@ fn words_that_are_no_answer_are_not_read() {
         [11, 9, 0, 0, 1, 0],
     ] {
         assert_eq!(Answer::decode(words), None, "{words:?}");
+    }
+}
+
+#[test]
+fn words_that_tell_of_no_buffer_are_not_read() {
+    for words in [
+        [12, 4, 0, 0, 0, 0],
+        [12, u32::MAX, 0, 0, 0, 0],
+        [12, 1, 8, 9, 1, 0],
+        [12, 1, 8, 9, 0, 1],
+        [0, 0, 0, 0, 0, 0],
+        [0, 14, 0, 0, 0, 0],
+        [0, 8, 1, 0, 0, 0],
+        [1, 130, 0, 0, 0, 0],
+        [11, 0, 1, 8, 9, 0],
+    ] {
+        assert_eq!(Held::decode(words), None, "{words:?}");
     }
 }

@@ -3,7 +3,7 @@
 mod steps;
 
 use makvluria::{
-    is_well_formed, Answer, Class, Driver, Layer, Process, Progress, Refusal, IMAGE_BYTES,
+    area, is_well_formed, Answer, Class, Driver, Layer, Process, Progress, Refusal, IMAGE_BYTES,
     LINES_BYTES, TABLE_WORDS,
 };
 use second::generate::{generate, Kind};
@@ -100,6 +100,28 @@ fn methods_are_the_functions() {
 }
 
 #[test]
+fn the_question_is_the_function() {
+    let mut told = 0;
+    for index in 0..40 {
+        let trace = generate(SEED, Kind::Walk, index);
+        let mut reader = Reader::new(&trace);
+        let mut layer = filled(&reader.board().unwrap());
+        while let Some(next) = reader.step().unwrap() {
+            let _ = step(&mut layer, next);
+            // The allows name a slot; the other classes, and any numbers, are asked about too.
+            if let Step::Call { process, class, registers: [driver, slot, ..] } = next {
+                let (process, class, driver) = (Process(process.0), Class(class), Driver(driver));
+                let of_method = layer.area(process, class, driver, slot);
+                let of_function = area(layer.table(), process, class, driver, slot);
+                assert_eq!(of_method, of_function, "walk {index}: {next:?}");
+                told += usize::from(of_method.is_ok_and(|held| held.size > 0));
+            }
+        }
+    }
+    assert!(told > 500, "{told} buffers were told");
+}
+
+#[test]
 fn runs_are_the_functions() {
     let mut lines = vec![0; LINES_BYTES];
     for index in 0..10 {
@@ -132,6 +154,7 @@ fn nothing_runs_before_the_start() {
     assert_eq!(layer.deposit(process, driver, 0, 0, b""), refused);
     assert_eq!(layer.fetch(process, driver, 0, 0, 0), Err(Refusal::NoTable));
     assert_eq!(layer.latch(driver, 0), refused);
+    assert_eq!(layer.area(process, Class::READ_ONLY_ALLOW, driver, 0), Err(Refusal::NoTable));
     assert_eq!(layer.start(&[]), Answer::Refused(Refusal::NoBoard));
     assert!(layer == before);
 }

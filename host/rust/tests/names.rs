@@ -4,9 +4,9 @@
 mod steps;
 
 use makvluria::{
-    call, deposit, event, fetch, latch, replay, resume, start, Answer, Class, Driver, ErrorCode,
-    Image, Process, Progress, Refusal, ReturnVariant, Returned, BOARD_WORDS, FLASH_BASE,
-    IMAGE_BYTES, MEMORY_BASE, TABLE_WORDS,
+    area, call, deposit, event, fetch, latch, raw, replay, resume, start, Answer, Area, Class,
+    Driver, ErrorCode, Held, Image, Process, Progress, Refusal, ReturnVariant, Returned,
+    BOARD_WORDS, FLASH_BASE, IMAGE_BYTES, MEMORY_BASE, TABLE_WORDS,
 };
 use second::generate::{generate, Kind};
 use second::step::Step;
@@ -254,6 +254,48 @@ fn the_first_byte_of_an_image_is_at_its_base() {
         assert_eq!(one, format!("fetched 1 byte of {image} at 0x{address:08X}"));
         let none = fetch(table, memory, flash, FIRST, UNSHARED, 0, 1, 0).to_string();
         assert_eq!(none, "fetched 0 bytes");
+    }
+}
+
+/// The three that a table holds, by what the library tells; the last by its number alone.
+#[test]
+fn each_area_has_its_number() {
+    let mut host = Host::fresh();
+    let (class, mut words) = (Class::READ_ONLY_ALLOW, [77; 6]);
+    for (number, name, address, size) in
+        [(0, "empty", 0xFFFF_FFFF, 0), (1, "RAM", 0x2000_0FFC, 4), (2, "flash", 0x0004_3FFC, 4)]
+    {
+        let _ = host.call(FIRST, class, [UNSHARED.0, 0, address, size]);
+        assert!(raw::area(&host.table, FIRST, class.0, UNSHARED, 0, &mut words));
+        assert_eq!(words, [12, number, address, size, 0, 0]);
+        let held = area(&host.table, FIRST, class, UNSHARED, 0);
+        assert_eq!(Held::decode(words), Some(held));
+        assert_eq!(held.unwrap().area.to_string(), name);
+        assert_eq!((held.unwrap().address, held.unwrap().size), (address, size));
+    }
+    let all = [Area::Empty, Area::Ram, Area::Flash, Area::Outside];
+    for (number, area) in (0..).zip(all) {
+        let held = Held { area, address: 8, size: 9 };
+        assert_eq!(Held::decode([12, number, 8, 9, 0, 0]), Some(Ok(held)));
+    }
+    assert_eq!(Area::Outside.to_string(), "outside");
+    assert_eq!(Held::decode([12, 4, 8, 9, 0, 0]), None);
+}
+
+#[test]
+fn a_refused_question_has_its_number() {
+    let host = Host::fresh();
+    for (table, process, driver, slot, number) in [
+        (&[][..], FIRST, UNSHARED, 0, 2),
+        (&host.table, Process(2), UNSHARED, 0, 3),
+        (&host.table, FIRST, Driver(2), 0, 7),
+        (&host.table, FIRST, UNSHARED, 1, 8),
+    ] {
+        let (class, mut words) = (Class::READ_ONLY_ALLOW, [77; 6]);
+        assert!(raw::area(table, process, class.0, driver, slot, &mut words));
+        assert_eq!(words, [0, number, 0, 0, 0, 0]);
+        let refusal = area(table, process, class, driver, slot).unwrap_err();
+        assert_eq!((refusal.number(), Held::decode(words)), (number, Some(Err(refusal))));
     }
 }
 

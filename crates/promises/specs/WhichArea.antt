@@ -1,0 +1,42 @@
+-- Where a buffer lies, as plain propositions over numbers: each of the four answers exactly if its condition holds.
+use Prim.Native.Nat.{ℕ, _≤_, _<_}
+use mathlib.Core.Path.{_≡_}
+use mathlib.Core.Logic.{_↔_, _≢_}
+use mathlib.Core.Bool.{true}
+use mathlib.Core.List.{List}
+use lib.ListN.{length}
+use Rattle.definition.specs.Board.{Board, Areas, Kind, subscribe, readWrite, areasAt, goodBoard}
+use Rattle.definition.specs.State.{Pair}
+use Rattle.definition.specs.Call.{pair}
+use Rattle.definition.specs.Area.{Area, empty, inRam, inFlash, outside}
+use Rattle.definition.specs.World.{processAt}
+use Rattle.definition.specs.Image.{stateOf, wellFormed}
+use Rattle.definition.specs.Located.{Located, lies}
+use Rattle.promises.specs.Accepted.{Lies}
+
+-- the area that is said of the size bytes from address, by a process's areas and its break
+pub record LiesExactly (a : Areas) (break address size : ℕ) (area : Area) : Type 0 where
+  pub nothing : (area ≡ empty) ↔ (size ≡ 0)
+  pub ram : (area ≡ inRam) ↔ ((size ≢ 0) × Lies (a .ramStart) break address size)
+  pub flash : (area ≡ inFlash) ↔ ((size ≢ 0) × Lies (a .flashStart) (a .flashEnd) address size)
+  pub elsewhere : (area ≡ outside) ↔ ((size ≢ 0) × ¬ Lies (a .ramStart) break address size × ¬ Lies (a .flashStart) (a .flashEnd) address size)
+  -- RAM and flash never both hold, so that none of the four goes by the order of the tests
+  pub neverBoth : ¬ (Lies (a .ramStart) break address size × Lies (a .flashStart) (a .flashEnd) address size)
+
+-- whoever says it, of a process on a good board whose break is not above the end of its RAM
+abbrev pub SaysWhere : (Areas → ℕ → Pair → Area) → Type 0
+SaysWhere areaOf = (b : Board) → goodBoard b ≡ true → (p break address size : ℕ) → p < length (b .processes) → break ≤ areasAt b p .ramEnd
+    → LiesExactly (areasAt b p) break address size (areaOf (areasAt b p) break (pair address size))
+
+-- what a host is told of a held buffer, whatever it asks of whatever table: its area exactly, and that is one that the process may lend memory of
+pub record ToldExactly (kind : Kind) (p driver j : ℕ) (t : List ℕ) (area : Area) (x : Pair) : Type 0 where
+  pub formed : wellFormed t ≡ true
+  pub known : p < length (stateOf t .board .processes)
+  pub exact : LiesExactly (areasAt (stateOf t .board) p) (processAt (stateOf t) p .break) (x .first) (x .second) area
+  pub inside : area ≢ outside
+  pub writable : kind ≡ readWrite → area ≢ inFlash
+  -- a subscribe slot holds no buffer
+  pub buffer : kind ≢ subscribe
+
+abbrev pub TellsWhere : (Kind → (p driver j : ℕ) → List ℕ → Located) → Type 0
+TellsWhere locate = (kind : Kind) (p driver j : ℕ) (t : List ℕ) (area : Area) (x : Pair) → locate kind p driver j t ≡ lies area x → ToldExactly kind p driver j t area x

@@ -1,0 +1,82 @@
+-- Wrong ways to say where a buffer lies, to be read; each is refuted on the board of the cases, by one buffer of process 0.
+use Prim.Native.Nat.{ℕ, suc, _+_, _≤_}
+use mathlib.Core.Path.{_≡_, refl}
+use mathlib.Core.Bool.{Bool}
+use native.Mathlib.Omega.{arith}
+use lib.Dec.{eqb}
+use Rattle.definition.specs.Tests.{if_then_else_, contains, within}
+use Rattle.definition.specs.Board.{Areas, areasAt}
+use Rattle.definition.specs.State.{Pair}
+use Rattle.definition.specs.Call.{pair}
+use Rattle.definition.specs.Area.{Area, empty, inRam, inFlash, outside}
+use Rattle.definition.specs.Cases.{areas, board, board-good, onTable}
+use Rattle.promises.specs.WhichArea.{LiesExactly, SaysWhere}
+
+-- ---- the wrong ways
+
+-- a test of RAM of one's own, and else as it should be
+abbrev byRam : (Areas → ℕ → Pair → Bool) → Areas → ℕ → Pair → Area
+byRam ram a break x =
+    if eqb (x .second) 0 then empty
+    else if ram a break x then inRam
+    else if within (a .flashStart) (a .flashEnd) (x .first) (x .second) then inFlash
+    else outside
+
+-- a buffer may end one past the break
+unfoldable pub onePast : Areas → ℕ → Pair → Area
+onePast = byRam (λ a break x. within (a .ramStart) (suc break) (x .first) (x .second))
+
+-- it is enough that it begins below the break: it may straddle it
+unfoldable pub straddles : Areas → ℕ → Pair → Area
+straddles = byRam (λ a break x. contains (a .ramStart) break (x .first))
+
+-- RAM goes up to its end, whatever the break
+unfoldable pub toTheEnd : Areas → ℕ → Pair → Area
+toTheEnd = byRam (λ a break x. within (a .ramStart) (a .ramEnd) (x .first) (x .second))
+
+-- flash is tested before the size is
+unfoldable pub flashFirst : Areas → ℕ → Pair → Area
+flashFirst a break x =
+    if within (a .flashStart) (a .flashEnd) (x .first) (x .second) then inFlash
+    else if eqb (x .second) 0 then empty
+    else if within (a .ramStart) break (x .first) (x .second) then inRam
+    else outside
+
+-- every buffer is in RAM
+unfoldable pub always : Areas → ℕ → Pair → Area
+always a break x = inRam
+
+-- ---- refuted
+
+-- what is said of a buffer of process 0, whose break is at 0x20001000
+module _ (areaOf : Areas → ℕ → Pair → Area) (s : SaysWhere areaOf) (address size : ℕ) where
+  exact : LiesExactly (areasAt board 0) 0x20001000 address size (areaOf (areasAt board 0) 0x20001000 (pair address size))
+  unfolding board areas
+  exact = s board board-good 0 0x20001000 address size (omega arith) (omega arith)
+
+  -- in RAM it ends at the break or below; in flash it has a size
+  ram-ends : areaOf (areasAt board 0) 0x20001000 (pair address size) ≡ inRam → address + size ≤ 0x20001000
+  ram-ends e = exact .ram .0 e .1 .below
+
+  flash-some : areaOf (areasAt board 0) 0x20001000 (pair address size) ≡ inFlash → size ≡ 0 → ⊥
+  flash-some e = exact .flash .0 e .0
+
+pub one-past-wrong : ¬ SaysWhere onePast
+unfolding onePast board areas onTable
+one-past-wrong s = absurd (omega (arith, ram-ends onePast s 0x20000F00 0x101 refl))
+
+pub straddles-wrong : ¬ SaysWhere straddles
+unfolding straddles board areas onTable
+straddles-wrong s = absurd (omega (arith, ram-ends straddles s 0x20000FFF 0x100 refl))
+
+pub to-the-end-wrong : ¬ SaysWhere toTheEnd
+unfolding toTheEnd board areas onTable
+to-the-end-wrong s = absurd (omega (arith, ram-ends toTheEnd s 0x20001000 0x100 refl))
+
+pub flash-first-wrong : ¬ SaysWhere flashFirst
+unfolding flashFirst board areas onTable
+flash-first-wrong s = flash-some flashFirst s 0x00040000 0 refl refl
+
+pub always-wrong : ¬ SaysWhere always
+unfolding always board areas onTable
+always-wrong s = absurd (omega (arith, ram-ends always s 0x20001000 1 refl))
