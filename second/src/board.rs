@@ -1,5 +1,13 @@
 //! The limits, the board's words and what makes a board good.
 
+mod check;
+
+use std::fmt;
+
+use crate::fault::BoardFault;
+
+pub use check::{check_board, check_driver_count, check_process_count};
+
 /// Most processes on a board.
 pub const MAX_PROCESSES: usize = 8;
 /// Most drivers on a board.
@@ -20,6 +28,22 @@ pub const FLASH: Area = Area::new(0x0004_0000, 0x0005_0000);
 pub const PROCESS_WORDS: usize = 7;
 /// Words of one driver on a board.
 pub const DRIVER_WORDS: usize = 5;
+
+/// Places of the words in the row of a process, and of a driver.
+pub mod field {
+    pub const S: usize = 0;
+    pub const E: usize = 1;
+    pub const G: usize = 2;
+    pub const B: usize = 3;
+    pub const F: usize = 4;
+    pub const FE: usize = 5;
+    pub const PERMISSIONS: usize = 6;
+
+    pub const NUMBER: usize = 0;
+    /// The first of three, in the order of the kinds.
+    pub const SLOTS: usize = 1;
+    pub const SHARED: usize = 4;
+}
 
 /// A process as a board writes it: S, E, G, B, F, FE and the permission mask.
 pub type ProcessWords = [u32; PROCESS_WORDS];
@@ -95,12 +119,31 @@ impl Area {
         self.end <= self.start
     }
 
-    fn lies_in(self, outer: Area) -> bool {
-        outer.start <= self.start && self.end <= outer.end
-    }
-
     fn is_disjoint_from(self, other: Area) -> bool {
         self.end <= other.start || other.end <= self.start
+    }
+}
+
+/// Where a buffer lies.
+#[derive(Clone, Copy, Debug, PartialEq, Eq)]
+pub enum BufferArea {
+    /// It has no bytes, so that its address is of no matter.
+    Empty,
+    /// Wholly in the process's RAM, below its break.
+    Ram,
+    /// Wholly in the process's flash.
+    Flash,
+    Outside,
+}
+
+impl fmt::Display for BufferArea {
+    fn fmt(&self, out: &mut fmt::Formatter) -> fmt::Result {
+        out.write_str(match self {
+            BufferArea::Empty => "empty",
+            BufferArea::Ram => "RAM",
+            BufferArea::Flash => "flash",
+            BufferArea::Outside => "outside",
+        })
     }
 }
 
@@ -142,38 +185,33 @@ impl ProcessBoard {
         (self.permissions >> driver.0) & 1 == 1
     }
 
-    /// Whether a slot of this kind may hold the pair while the break is there:
-    /// an upcall that is null or points into flash; a buffer that is empty, or
-    /// lies wholly in RAM below the break or (read-only) in flash. All of it is
-    /// looked at: what decides could not be guessed.
+    /// Where a buffer lies while the break is there.
     #[inline(always)]
-    pub fn accepts(&self, app_break: u32, kind: SlotKind, [first, second]: [u32; 2]) -> bool {
-        let in_ram = || Area::new(self.ram.start, app_break).holds(first, second);
-        match kind {
-            SlotKind::Subscribe => first == 0 || self.flash.contains(first),
-            SlotKind::ReadWrite => second == 0 || in_ram(),
-            SlotKind::ReadOnly => second == 0 || in_ram() || self.flash.holds(first, second),
+    pub fn area_of(&self, app_break: u32, [address, size]: [u32; 2]) -> BufferArea {
+        if size == 0 {
+            BufferArea::Empty
+        } else if Area::new(self.ram.start, app_break).holds(address, size) {
+            BufferArea::Ram
+        } else if self.flash.holds(address, size) {
+            BufferArea::Flash
+        } else {
+            BufferArea::Outside
         }
     }
 
-    fn is_good(&self, drivers: usize) -> bool {
-        self.has_good_ram() && self.has_good_flash() && u64::from(self.permissions) >> drivers == 0
-    }
-
-    fn has_good_ram(&self) -> bool {
-        self.ram.lies_in(MEMORY)
-            && !self.ram.is_empty()
-            && self.ram.start <= self.first_break
-            && self.first_break <= self.grant_start
-            && self.grant_start <= self.ram.end
-    }
-
-    fn has_good_flash(&self) -> bool {
-        self.flash.lies_in(FLASH) && !self.flash.is_empty()
-    }
-
-    fn is_disjoint_from(&self, other: &ProcessBoard) -> bool {
-        self.ram.is_disjoint_from(other.ram) && self.flash.is_disjoint_from(other.flash)
+    /// Whether a slot of this kind may hold the pair while the break is there:
+    /// an upcall that is null or points into flash; a buffer that is empty, or
+    /// lies wholly in RAM below the break or (read-only) in flash.
+    #[inline(always)]
+    pub fn accepts(&self, app_break: u32, kind: SlotKind, pair: [u32; 2]) -> bool {
+        let [pointer, _] = pair;
+        match kind {
+            SlotKind::Subscribe => pointer == 0 || self.flash.contains(pointer),
+            SlotKind::ReadWrite => {
+                matches!(self.area_of(app_break, pair), BufferArea::Empty | BufferArea::Ram)
+            }
+            SlotKind::ReadOnly => self.area_of(app_break, pair) != BufferArea::Outside,
+        }
     }
 }
 
@@ -217,14 +255,17 @@ pub struct Board {
 impl Board {
     /// The board that these words describe, or None if it is not good.
     pub fn from_words(words: &[u32]) -> Option<Board> {
-        let (processes, drivers) = split_words(words)?;
-        if !is_good_board(processes, drivers) {
-            return None;
-        }
+        Board::checked(words).ok()
+    }
+
+    /// The same, or what is wrong with the words.
+    pub fn checked(words: &[u32]) -> Result<Board, BoardFault> {
+        let (processes, drivers) = split_words(words).ok_or_else(|| check::misfit(words))?;
+        check_board(processes, drivers)?;
         let processes = processes.iter().map(ProcessBoard::from_words).collect();
         let drivers: Vec<_> = drivers.iter().map(DriverBoard::from_words).collect();
         let numbers = DriverNumbers::of(&drivers);
-        Some(Board { processes, drivers, numbers })
+        Ok(Board { processes, drivers, numbers })
     }
 
     pub fn processes(&self) -> &[ProcessBoard] {
@@ -240,23 +281,6 @@ impl Board {
     pub fn find_driver(&self, number: DriverNumber) -> Option<DriverPlace> {
         self.numbers.find(number)
     }
-}
-
-/// Whether a board with these processes and drivers is good.
-pub fn is_good_board(processes: &[ProcessWords], drivers: &[DriverWords]) -> bool {
-    (1..=MAX_PROCESSES).contains(&processes.len())
-        && drivers.len() <= MAX_DRIVERS
-        && processes.iter().all(|words| ProcessBoard::from_words(words).is_good(drivers.len()))
-        && drivers.iter().all(is_good_driver)
-        && every_pair(processes, |a, b| {
-            ProcessBoard::from_words(a).is_disjoint_from(&ProcessBoard::from_words(b))
-        })
-        && every_pair(drivers, |[a, ..], [b, ..]| a != b)
-}
-
-fn is_good_driver(words: &DriverWords) -> bool {
-    let [_, slots @ .., shared] = words;
-    slots.iter().all(|&slots| slots <= MAX_SLOTS) && *shared <= 1
 }
 
 /// The drivers' numbers side by side, so that all can be compared at once:
@@ -297,8 +321,4 @@ pub fn split_words(words: &[u32]) -> Option<(&[ProcessWords], &[DriverWords])> {
     let (&drivers, rest) = rest.split_first()?;
     let fits = DRIVER_WORDS.checked_mul(drivers as usize)? == rest.len();
     fits.then_some((processes.as_chunks().0, rest.as_chunks().0))
-}
-
-fn every_pair<T>(items: &[T], holds: impl Fn(&T, &T) -> bool) -> bool {
-    items.iter().enumerate().all(|(place, a)| items[place + 1..].iter().all(|b| holds(a, b)))
 }

@@ -1,7 +1,7 @@
 //! The seven call classes.
 
 use crate::board::{
-    Board, DriverNumber, DriverPlace, ProcessBoard, ProcessIndex, SlotKind, IMAGE_SIZE,
+    Board, BufferArea, DriverNumber, DriverPlace, ProcessBoard, ProcessIndex, SlotKind, IMAGE_SIZE,
 };
 use crate::state::{Activity, DriverState, Machine, Pair, Process, Slot};
 use crate::step::{Answer, Refusal};
@@ -241,10 +241,9 @@ impl Process {
         if new < ram.start || grant_start < new {
             return None;
         }
-        // A held buffer that is not empty lies in this process's RAM or flash.
-        let blocked = self.held_buffers().any(|held| {
-            !held.is_empty() && ram.contains(held.address) && held.end() > u64::from(new)
-        });
+        let blocked = self
+            .held_buffers()
+            .any(|held| self.area_of(held) == BufferArea::Ram && held.end() > u64::from(new));
         if blocked {
             return None;
         }

@@ -3,7 +3,7 @@
 //!
 //! `board`, `state`, `step` and `call` are the rules; `number`, `trace`,
 //! `lines` and `replay` are the trace program; `table` is the state as words,
-//! and the check of any words; `generate` makes traces that reach deep; `text`
+//! and the check of any words, with `fault` for what it finds; `generate` makes traces that reach deep; `text`
 //! is a form of traces for people.
 //!
 //! It is the plain program that the proved one is timed beside, too. Where it
@@ -12,6 +12,7 @@
 
 pub mod board;
 pub mod call;
+pub mod fault;
 pub mod generate;
 pub mod lines;
 pub mod number;

@@ -4,8 +4,8 @@
 use std::collections::VecDeque;
 
 use crate::board::{
-    Area, Board, DriverBoard, DriverPlace, ProcessBoard, ProcessIndex, SlotKind, FLASH, IMAGE_SIZE,
-    MAX_DRIVERS, MAX_SLOTS, MEMORY, SLOT_KINDS,
+    Area, Board, BufferArea, DriverBoard, DriverPlace, ProcessBoard, ProcessIndex, SlotKind, FLASH,
+    IMAGE_SIZE, MAX_DRIVERS, MAX_SLOTS, MEMORY, SLOT_KINDS,
 };
 use crate::step::Refusal;
 
@@ -128,6 +128,12 @@ impl Process {
     #[inline(always)]
     pub fn accessible_ram(&self) -> Area {
         Area { end: self.app_break, ..self.board.ram }
+    }
+
+    /// Where a buffer lies.
+    #[inline(always)]
+    pub fn area_of(&self, Buffer { address, size }: Buffer) -> BufferArea {
+        self.board.area_of(self.app_break, [address, size])
     }
 
     /// Whether a slot of this kind may hold the pair.

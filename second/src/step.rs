@@ -1,6 +1,6 @@
 //! The steps, their answers and their refusals. Calls are in `call`.
 
-use crate::board::{DriverNumber, DriverPlace, ProcessIndex, SlotKind, FLASH};
+use crate::board::{BufferArea, DriverNumber, DriverPlace, ProcessIndex, SlotKind};
 use crate::state::{
     flash_place, memory_place, Activity, Buffer, Machine, Process, QueuedUpcall, Slot, Upcall,
     QUEUE_CAPACITY,
@@ -76,13 +76,13 @@ impl Part {
     /// What a fetch of length 0 hands back: it touches no address.
     pub const EMPTY: Part = Part { image: Image::Memory, start: 0, length: 0 };
 
-    /// A non-empty part of a held buffer, already known to lie inside it.
-    fn of(held: Buffer, offset: u32, length: u32) -> Part {
+    /// A non-empty part of a held buffer that lies there, already known to lie
+    /// inside it.
+    fn of(held: Buffer, area: BufferArea, offset: u32, length: u32) -> Part {
         let address = held.address + offset;
-        let (image, start) = if FLASH.contains(address) {
-            (Image::Flash, flash_place(address))
-        } else {
-            (Image::Memory, memory_place(address))
+        let (image, start) = match area {
+            BufferArea::Flash => (Image::Flash, flash_place(address)),
+            _ => (Image::Memory, memory_place(address)),
         };
         Part { image, start, length: length as usize }
     }
@@ -167,8 +167,11 @@ impl Machine {
     ) -> Result<Answer, Refusal> {
         let held = self.held(process, driver, SlotKind::ReadOnly, slot)?;
         check_within(held, offset, u64::from(length))?;
-        let part = if length == 0 { Part::EMPTY } else { Part::of(held, offset, length) };
-        Ok(Answer::Fetched(part))
+        if length == 0 {
+            return Ok(Answer::Fetched(Part::EMPTY));
+        }
+        let area = self.processes[process.place()].area_of(held);
+        Ok(Answer::Fetched(Part::of(held, area, offset, length)))
     }
 
     /// Stores a shared driver's value. Refused in the order 7, 12.

@@ -9,5 +9,5 @@ pub mod list;
 pub mod names;
 pub mod parse;
 pub mod record;
-mod value;
+pub mod value;
 mod words;

@@ -4,6 +4,7 @@ use std::io::{self, Write};
 
 use crate::board::split_words;
 use crate::state::Machine;
+use crate::step::{Answer, Refusal};
 use crate::text::answer::{show_outcome, show_refusal};
 use crate::text::names::{
     Field, Form, Said, Style, BOARD, BOARD_DRIVER, BOARD_PROCESS, BOARD_WORDS, STEPS,
@@ -21,17 +22,94 @@ pub fn list(trace: &[u8], out: &mut impl Write) -> io::Result<()> {
     if trace.len() > MAX_TRACE_BYTES {
         return write_too_long(out);
     }
-    let words = match scan_board(trace) {
-        Ok(words) => words,
+    let mut records = match Records::new(trace) {
+        Ok(records) => records,
         Err(fault) => return write_fault(out, 0, &fault),
     };
-    let machine = Machine::start(&words);
-    let answer = match &machine {
-        Ok(_) => String::from("started"),
-        Err(refusal) => show_refusal(*refusal),
-    };
-    list_board(&words, &answer, out)?;
-    list_steps(trace, machine.ok(), out)
+    list_board(records.board(), &records.start_answer(), out)?;
+    loop {
+        let offset = records.place();
+        match records.make_step() {
+            Ok(None) => return Ok(()),
+            Ok(Some(Made { text, answer, .. })) => write_record(out, offset, &text, &answer)?,
+            Err(fault) => return write_fault(out, offset, &fault),
+        }
+    }
+}
+
+/// A trace whose steps are made one after the other, each told in words.
+pub struct Records<'a> {
+    trace: &'a [u8],
+    board: Vec<u32>,
+    reader: Reader<'a>,
+    machine: Result<Machine, Refusal>,
+}
+
+/// A step that has been made.
+pub struct Made {
+    pub text: String,
+    pub answer: String,
+    /// None if there was no start.
+    pub outcome: Option<Result<Answer, Refusal>>,
+}
+
+impl<'a> Records<'a> {
+    /// With its board read and started, if it is good.
+    pub fn new(trace: &'a [u8]) -> Result<Records<'a>, Fault> {
+        let board = scan_board(trace)?;
+        let mut reader = Reader::new(trace);
+        reader.board().expect("a board without a fault is one");
+        Ok(Records { trace, machine: Machine::start(&board), board, reader })
+    }
+
+    /// The board's words.
+    pub fn board(&self) -> &[u32] {
+        &self.board
+    }
+
+    /// The state, if there was a start.
+    pub fn machine(&self) -> Option<&Machine> {
+        self.machine.as_ref().ok()
+    }
+
+    /// The offset of the next record.
+    pub fn place(&self) -> usize {
+        self.reader.place()
+    }
+
+    /// What the start gave.
+    pub fn start_answer(&self) -> String {
+        match &self.machine {
+            Ok(_) => String::from("started"),
+            Err(refusal) => show_refusal(*refusal),
+        }
+    }
+
+    /// The next step in words, or None at the end of the trace.
+    pub fn next_step(&self) -> Result<Option<String>, Fault> {
+        Ok(self.describe_next()?.map(|(text, _)| text))
+    }
+
+    /// Makes the next step, if the board was good and there is one.
+    pub fn make_step(&mut self) -> Result<Option<Made>, Fault> {
+        let Some((text, form)) = self.describe_next()? else {
+            return Ok(None);
+        };
+        let step = self.reader.step().ok().flatten().expect("a record without a fault is a step");
+        let Ok(machine) = &mut self.machine else {
+            return Ok(Some(Made { text, answer: String::from("not run"), outcome: None }));
+        };
+        let outcome = machine.step(step);
+        let answer = show_outcome(machine, outcome, form.gives);
+        Ok(Some(Made { text, answer, outcome: Some(outcome) }))
+    }
+
+    fn describe_next(&self) -> Result<Option<(String, &'static Form)>, Fault> {
+        if self.reader.is_at_end() {
+            return Ok(None);
+        }
+        scan_step(self.trace, self.place()).map(|record| Some(describe(&record)))
+    }
 }
 
 /// The listing of a trace, in one piece.
@@ -54,32 +132,6 @@ fn list_board(words: &[u32], answer: &str, out: &mut impl Write) -> io::Result<(
         write_board_line(out, &BOARD_DRIVER, driver)?;
     }
     Ok(())
-}
-
-/// The steps, without a machine if there was no start.
-fn list_steps(trace: &[u8], mut machine: Option<Machine>, out: &mut impl Write) -> io::Result<()> {
-    let mut reader = Reader::new(trace);
-    reader.board().expect("the board has been read before");
-    loop {
-        let offset = reader.place();
-        if offset == trace.len() {
-            return Ok(());
-        }
-        let record = match scan_step(trace, offset) {
-            Ok(record) => record,
-            Err(fault) => return write_fault(out, offset, &fault),
-        };
-        let step = reader.step().ok().flatten().expect("a record without a fault is a step");
-        let (text, form) = describe(&record);
-        let answer = match &mut machine {
-            Some(machine) => {
-                let outcome = machine.step(step);
-                show_outcome(machine, outcome, form.gives)
-            }
-            None => String::from("not run"),
-        };
-        write_record(out, offset, &text, &answer)?;
-    }
 }
 
 /// The record in words, and the form that it ends with.

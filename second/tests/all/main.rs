@@ -5,6 +5,7 @@ mod boards;
 mod calls;
 mod cases;
 mod common;
+mod faults;
 mod generator;
 mod incident;
 mod listing;

@@ -18,7 +18,7 @@ fn the_places_are_those_of_the_document() {
 }
 
 /// A table that is written word by word.
-struct Words(Vec<u32>);
+pub struct Words(pub Vec<u32>);
 
 impl Words {
     fn put(&mut self, at: usize, words: &[u32]) {
@@ -70,7 +70,7 @@ fn fresh() -> Words {
     words
 }
 
-fn worked() -> Words {
+pub fn worked() -> Words {
     let mut words = fresh();
     words.slot(0, 0, [0x4_0010, 7]);
     words.slot(0, 1, [0x4_3FFF, 8]);
