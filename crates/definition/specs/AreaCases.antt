@@ -6,7 +6,7 @@ use Rattle.definition.specs.Board.{Kind, subscribe, readWrite, readOnly}
 use Rattle.definition.specs.State.{Pair, null}
 use Rattle.definition.specs.Call.{pair}
 use Rattle.definition.specs.Area.{Area, empty, inRam, inFlash, outside, areaOf}
-use Rattle.definition.specs.World.{step}
+use Rattle.definition.specs.World.{World, step}
 use Rattle.definition.specs.Image.{imageOf}
 use Rattle.definition.specs.Located.{Located, refused, lies, hasBuffer, located, locate, lentBy}
 use Rattle.definition.specs.Cases.{areas, begin, by0, onTable}
@@ -63,45 +63,61 @@ areas-judged = refl
 
 -- ---- a host that asks
 
--- process 0 lends a buffer in RAM and one in flash
-unfoldable pub lent : List ℕ
-unfolding begin by0 onTable
-lent = imageOf (step (by0 4 1 0 0x00040010 3) (step (by0 3 1 0 0x20000F00 0x100) begin .after) .after .state)
+-- process 0 lends a buffer in RAM and one in flash; then it exits
+unfoldable pub lends : World
+unfolding begin by0
+lends = step (by0 4 1 0 0x00040010 3) (step (by0 3 1 0 0x20000F00 0x100) begin .after) .after
 
--- the kind, the process, the driver and the slot that are asked for
+unfoldable pub exits : World
+unfolding lends by0
+exits = step (by0 6 0 0 0 0) lends .after
+
+-- the kind, the process, the driver and the slot that are asked for, and what is told
 pub record Question : Type 0 where
   pub kind : Kind
   pub process : ℕ
   pub driver : ℕ
   pub slot : ℕ
-  pub told : Located
+  pub tells : Located
 
-unfoldable pub asked : Question → Located
-unfolding lent hasBuffer located locate onTable
-asked x = locate (x .kind) (x .process) (x .driver) (x .slot) lent
+unfoldable pub asked : World → Question → Located
+unfolding hasBuffer located onTable
+asked w x = located (x .kind) (x .process) (x .driver) (x .slot) (w .state)
 
 unfoldable pub told : Question → Located
-told x = x .told
+told x = x .tells
 
-unfoldable pub questions : List Question
+pub questions : List Question
 questions =
-    record { kind = readWrite; process = 0; driver = 1; slot = 0; told = lies inRam (pair 0x20000F00 0x100) }
-    ∷ record { kind = readOnly; process = 0; driver = 1; slot = 0; told = lies inFlash (pair 0x00040010 3) }
-    ∷ record { kind = readOnly; process = 1; driver = 1; slot = 0; told = lies empty null }
+    record { kind = readWrite; process = 0; driver = 1; slot = 0; tells = lies inRam (pair 0x20000F00 0x100) }
+    ∷ record { kind = readOnly; process = 0; driver = 1; slot = 0; tells = lies inFlash (pair 0x00040010 3) }
+    ∷ record { kind = readOnly; process = 1; driver = 1; slot = 0; tells = lies empty null }
     -- 3 before 7 before 8; a driver has no more slots than it says, and a subscribe slot holds no buffer
-    ∷ record { kind = readOnly; process = 2; driver = 7; slot = 9; told = refused 3 }
-    ∷ record { kind = readOnly; process = 1; driver = 7; slot = 9; told = refused 7 }
-    ∷ record { kind = readOnly; process = 1; driver = 1; slot = 1; told = refused 8 }
-    ∷ record { kind = subscribe; process = 0; driver = 1; slot = 0; told = refused 8 }
+    ∷ record { kind = readOnly; process = 2; driver = 7; slot = 9; tells = refused 3 }
+    ∷ record { kind = readOnly; process = 1; driver = 7; slot = 9; tells = refused 7 }
+    ∷ record { kind = readOnly; process = 1; driver = 1; slot = 1; tells = refused 8 }
+    ∷ record { kind = subscribe; process = 0; driver = 1; slot = 0; tells = refused 8 }
     ∷ []
 
-pub questions-answered : map asked questions ≡ map told questions
-unfolding questions asked told lent
+pub questions-answered : map (asked lends) questions ≡ map told questions
+unfolding questions asked told lends
 questions-answered = refl
 
--- 2 before all others; and the classes that name a kind
+pub exited-answered : asked exits (record { kind = readWrite; process = 0; driver = 1; slot = 0; tells = lies empty null }) ≡ lies empty null
+unfolding asked exits
+exited-answered = refl
+
+-- on a table, and 2 before all others; and the classes that name a kind
+unfoldable pub lent : List ℕ
+unfolding lends
+lent = imageOf (lends .state)
+
+pub flash-told : locate readOnly 0 1 0 lent ≡ lies inFlash (pair 0x00040010 3)
+unfolding asked lent locate
+flash-told = refl
+
 pub no-table : locate readOnly 9 7 9 [] ≡ refused 2
-unfolding hasBuffer located locate onTable
+unfolding asked locate
 no-table = refl
 
 pub classes : map lentBy (0 ∷ 1 ∷ 2 ∷ 3 ∷ 4 ∷ 5 ∷ []) ≡ subscribe ∷ subscribe ∷ subscribe ∷ readWrite ∷ readOnly ∷ subscribe ∷ []

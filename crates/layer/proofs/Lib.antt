@@ -8,6 +8,7 @@ mod FetchLaws
 mod KnownLaws
 mod LatchLaws
 mod PublicLaws
+mod QuestionLaws
 mod ReadLaws
 mod RefusalLaws
 mod ReplayLaws

@@ -7,7 +7,7 @@ use mathlib.Core.List.{List, [], _∷_}
 use lib.ListN.{length, getD}
 use denote.Ref.{RefT}
 use Rattle.definition.specs.Tests.{if_then_else_}
-use Rattle.definition.specs.Board.{subscribe, readOnly}
+use Rattle.definition.specs.Board.{subscribe}
 use Rattle.definition.specs.State.{held, free, State}
 use Rattle.definition.specs.Answer.{memory, emptyPart, Answer, refused, waits, taken, deposited, latched, fetched, failure, INVAL, numberOf}
 use Rattle.definition.specs.Decide.{call, event, resume, deposit, fetch}
@@ -17,11 +17,7 @@ use Rattle.definition.specs.Words.{sameWords}
 use Rattle.definition.specs.Image.{pairWords, stateOf}
 use Rattle.definition.specs.Table.{Lent, lentOf, tableStep}
 use Rattle.definition.specs.Replay.{Stop, atEnd, playAt}
-use Rattle.definition.specs.Area.{inFlash}
-use Rattle.definition.specs.Located.{Located, refused as unlocated, lies, locate}
-use Rattle.definition.specs.Call.{pair}
 use Rattle.definition.specs.Cases.{zeros}
-use Rattle.definition.specs.AreaCases.{lent as flashLent, asked, told, questions, questions-answered, no-table}
 use Rattle.definition.specs.TraceCases.{wholeTrace, inRoom, rooms-kept}
 use Rattle.laws.specs.Good.{Good, of-good}
 use Rattle.laws.specs.ImageBack.{good-back}
@@ -236,20 +232,6 @@ module _ (r : Fetched) where
 
   pub fetch-elsewhere : (r .place .place ≡ 0xF00 → ⊥) → ¬ Finds (readAfter shows) (memoryAt shows) (at shows .flash) r
   fetch-elsewhere other p = other (ap (λ a. partOf a .place) (sym (p .answer) ∙ two-read))
-
--- ---- where a buffer lies: asked of no word at all, and of the table of the cases, on which process 0 lends a buffer in flash
-
--- anything but the refusal
-pub area-unrefused : (r : Located) → (r ≡ unlocated 2 → ⊥) → ¬ (r ≡ locate readOnly 9 7 9 [])
-area-unrefused r other e = other (e ∙ no-table)
-
-pub flash-told : locate readOnly 0 1 0 flashLent ≡ lies inFlash (pair 0x00040010 3)
-unfolding questions asked told
-flash-told = ap (λ (l : List Located). getD l 1 (unlocated 0)) questions-answered
-
--- any other area, address or size, and any refusal
-pub area-elsewhere : (r : Located) → (r ≡ lies inFlash (pair 0x00040010 3) → ⊥) → ¬ (r ≡ locate readOnly 0 1 0 flashLent)
-area-elsewhere r other e = other (e ∙ flash-told)
 
 -- ---- a run over the trace of the whole case, into a buffer of 64 bytes: the second record, at place 37, has no room
 

@@ -1,15 +1,19 @@
--- Wrong ways to say where a buffer lies, to be read; each is refuted on the board of the cases, by one buffer of process 0.
+-- Wrong ways to say where a buffer lies, to be read; each is refuted on the board of the cases, by one buffer of process 0. And wrong answers to a host that asks, which the
+-- layer's statement refutes.
 use Prim.Native.Nat.{ℕ, suc, _+_, _≤_}
-use mathlib.Core.Path.{_≡_, refl}
+use mathlib.Core.Path.{_≡_, refl, _∙_}
 use mathlib.Core.Bool.{Bool}
+use mathlib.Core.List.{[]}
 use native.Mathlib.Omega.{arith}
 use lib.Dec.{eqb}
 use Rattle.definition.specs.Tests.{if_then_else_, contains, within}
-use Rattle.definition.specs.Board.{Areas, areasAt}
+use Rattle.definition.specs.Board.{Areas, readOnly, areasAt}
 use Rattle.definition.specs.State.{Pair}
 use Rattle.definition.specs.Call.{pair}
 use Rattle.definition.specs.Area.{Area, empty, inRam, inFlash, outside}
+use Rattle.definition.specs.Located.{Located, refused, lies, locate}
 use Rattle.definition.specs.Cases.{areas, board, board-good, onTable}
+use Rattle.definition.specs.AreaCases.{lent, flash-told, no-table}
 use Rattle.promises.specs.WhichArea.{LiesExactly, SaysWhere}
 
 -- ---- the wrong ways
@@ -80,3 +84,13 @@ flash-first-wrong s = flash-some flashFirst s 0x00040000 0 refl refl
 pub always-wrong : ¬ SaysWhere always
 unfolding always board areas onTable
 always-wrong s = absurd (omega (arith, ram-ends always s 0x20001000 1 refl))
+
+-- ---- wrong answers to a host that asks: of no word at all, and of the table of the cases, on which process 0 lends a buffer in flash
+
+-- anything but the refusal
+pub area-unrefused : (r : Located) → (r ≡ refused 2 → ⊥) → ¬ (r ≡ locate readOnly 9 7 9 [])
+area-unrefused r other e = other (e ∙ no-table)
+
+-- any other area, address or size, and any refusal
+pub area-elsewhere : (r : Located) → (r ≡ lies inFlash (pair 0x00040010 3) → ⊥) → ¬ (r ≡ locate readOnly 0 1 0 lent)
+area-elsewhere r other e = other (e ∙ flash-told)

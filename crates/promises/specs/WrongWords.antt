@@ -13,7 +13,7 @@ use Rattle.definition.specs.Image.{wellFormed}
 use Rattle.definition.specs.Table.{Lent, lentOf, tableStep, start}
 use Rattle.definition.specs.Located.{locate, lentBy}
 use Rattle.definition.specs.Cases.{zeros}
-use Rattle.definition.specs.AreaCases.{lent as flashLent}
+use Rattle.definition.specs.AreaCases.{lent as flashLent, flash-told}
 use Rattle.laws.specs.Facts.{clash}
 use Rattle.laws.specs.Good.{of-good}
 use Rattle.laws.specs.ImageBack.{image-well-formed}
@@ -21,7 +21,7 @@ use Rattle.layer.specs.Steps.{gave}
 use Rattle.host.specs.Answers.{answerWords, locatedWords, Told, told, tell, Writes, WritesAlone, WritesOnly, answered}
 use Rattle.host.specs.Runs.{RunTold, NotRun, Runs}
 use Rattle.promises.specs.Begins.{words, ready, begins, subscribes, lends}
-use Rattle.promises.specs.WrongAnswers.{at, tableAt, memoryAt, good-at, Given, subscribes-unstored, events, events-unqueued, pending, resumes-keeps, deposits, deposits-unwritten, latches-unstored, reads, shows, two-read, flash-told}
+use Rattle.promises.specs.WrongAnswers.{at, tableAt, memoryAt, good-at, Given, subscribes-unstored, events, events-unqueued, pending, resumes-keeps, deposits, deposits-unwritten, latches-unstored, reads, shows, two-read}
 
 -- ---- any export that tells an answer, whatever is lent
 

@@ -3,7 +3,7 @@ use mathlib.Core.Path.{_∙_}
 use borrow.Author.Needs.{needs}
 use Rattle.table.specs.TableLaws.{well-formed-holds}
 use Rattle.words.specs.Loops.{passed, failed}
-use Rattle.layer.proofs.BufferLaws.{no-table, on-table}
+use Rattle.layer.proofs.QuestionLaws.{no-table, on-table}
 use Rattle.layer.proofs.area.Statement.{statement}
 use Rattle.layer.proofs.area.Tie as tie
 

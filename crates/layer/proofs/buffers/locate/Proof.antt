@@ -1,7 +1,7 @@
 -- The number is that of the rows; where it is 0 the slot can be read, and its buffer is told.
 use borrow.Author.Needs.{needs}
 use Rattle.layer.proofs.RefusalLaws.{slot-within}
-use Rattle.layer.proofs.BufferLaws.{asked-refused, asked-told}
+use Rattle.layer.proofs.QuestionLaws.{asked-refused, asked-told}
 use Rattle.layer.proofs.buffers.locate.Statement.{statement}
 use Rattle.layer.proofs.buffers.locate.Tie as tie
 

@@ -1,7 +1,7 @@
 -- The rows are tested in their order: the process's first, then those of the slot, and last whether slots of the kind hold buffers.
 use native.Mathlib.Omega.{arith}
 use borrow.Author.Needs.{needs}
-use Rattle.layer.proofs.RefusalLaws.{no-process, named-refused, left-for}
+use Rattle.layer.proofs.QuestionLaws.{no-process, named-refused, left-for}
 use Rattle.layer.proofs.refusals.question.Statement.{statement}
 use Rattle.layer.proofs.refusals.question.Tie as tie
 
