@@ -120,7 +120,7 @@ good-back s g = state-back s (shaped s g)
 
 -- ---- well-formed tables are the images of the good states, each of one
 
-same-words : (l : List ℕ) → sameWords l l ≡ true
+pub same-words : (l : List ℕ) → sameWords l l ≡ true
 unfolding sameWords
 same-words [] = refl
 same-words (x ∷ l) = and (eq-eqb x x refl) (same-words l)

@@ -1,5 +1,5 @@
 -- The definition says where a buffer lies; and what a host is told lies where the memory of its kind is accessible, whatever table it lends.
-use Prim.Native.Nat.{ℕ, _≤_}
+use Prim.Native.Nat.{ℕ}
 use mathlib.Core.Path.{_≡_, refl, sym, ap, _∙_, subst}
 use mathlib.Core.Logic.{_↔_, _≢_}
 use mathlib.Core.Bool.{Bool, true, false}
@@ -27,7 +27,7 @@ use Rattle.promises.specs.WhichArea.{LiesExactly, SaysWhere, ToldExactly
 
 -- ---- exactly
 
-module _ (a : Areas) (o : Placed a) (break address size : ℕ) (top : break ≤ a .ramEnd) where
+module _ (a : Areas) (o : Placed a) (break address size : ℕ) where
   abbrev ram : Type 0
   ram = InRam a break (pair address size)
 
@@ -58,7 +58,7 @@ module _ (a : Areas) (o : Placed a) (break address size : ℕ) (top : break ≤ 
   }
 
 pub says-where : SaysWhere areaOf
-says-where b good p break address size known top = exactly (areasAt b p) (placed b good p known) break address size top
+says-where b good p break address size known = exactly (areasAt b p) (placed b good p known) break address size
 
 -- ---- what a host is told
 
@@ -123,13 +123,12 @@ module _ (t : List ℕ) (kind : Kind) (p driver j : ℕ) (area : Area) (x : Pair
       let known = ltb-true p (length (b .processes)) (not-false _ on) in
       let installed = ltb-true k (length (b .drivers)) (not-false _ there) in
       let exists = ltb-true j (slotsOf kind (driverAt b k)) slot in
-      let o = placed b (g .board) p known in
       let hold = held-holdable kind b (areasAt b p) (processAt s p .break) k j (held kind (processAt s p) k j) (omega (arith, few-drivers b (g .board))) (omega (arith, few-slots b (g .board) kind k)) (g .each p .slots (slotAt kind k j)) in
       let access = subst (λ y. accessible kind y ≡ true) here (accessible-held kind (areasAt b p) (processAt s p .break) x buffer (subst (λ y. holdable kind (areasAt b p) (processAt s p .break) y ≡ true) same hold)) in
       record {
         formed = formed;
         known = known;
-        exact = subst (LiesExactly (areasAt b p) (processAt s p .break) (x .first) (x .second)) here (exactly (areasAt b p) o (processAt s p .break) (x .first) (x .second) (omega (arith, g .each p .high, o .grant-high)));
+        exact = subst (LiesExactly (areasAt b p) (processAt s p .break) (x .first) (x .second)) here (exactly (areasAt b p) (placed b (g .board) p known) (processAt s p .break) (x .first) (x .second));
         inside = not-outside kind area buffer access;
         writable = not-flash kind area access;
         buffer = buffer;

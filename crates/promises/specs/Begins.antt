@@ -4,7 +4,6 @@ use mathlib.Core.Path.{_≡_, refl, sym, ap, _∙_, subst}
 use mathlib.Core.Bool.{true, false}
 use mathlib.Core.List.{List, [], _∷_, _++_}
 use lib.ListN.{length}
-use borrow.Author.Tests.{eq-eqb}
 use Rattle.definition.specs.Limits.{imageBytes}
 use Rattle.definition.specs.Board.{Kind}
 use Rattle.definition.specs.Answer.{Answer, started, isAccepted}
@@ -17,9 +16,9 @@ use Rattle.definition.specs.Image.{boardWords, boardOf}
 use Rattle.definition.specs.Table.{Lent, worldOf, lentOf, tableStep, start}
 use Rattle.definition.specs.Lines.{digits, decimal, spaced, line, lineOf}
 use Rattle.definition.specs.Cases.{areas, board, zeros, onTable}
-use Rattle.laws.specs.Facts.{clash, and}
+use Rattle.laws.specs.Facts.{clash}
 use Rattle.laws.specs.Good.{Good, of-good}
-use Rattle.laws.specs.ImageBack.{good-back}
+use Rattle.laws.specs.ImageBack.{good-back, same-words}
 use Rattle.promises.specs.History.{heard, historyOf, lastPair, without, cancelledBy, takenBy, pendingAfter, pending}
 use Rattle.promises.specs.Accepted.{answerTo, AcceptedExactly}
 use Rattle.promises.specs.Promises.{Accounted}
@@ -29,11 +28,6 @@ use Rattle.promises.specs.Guarded.{guarded, table-answers}
 use Rattle.promises.specs.Demand3.{begun, accepted-start, begun-good}
 
 -- ---- things that are told by different words differ
-
-same-words : (l : List ℕ) → sameWords l l ≡ true
-unfolding sameWords
-same-words [] = refl
-same-words (x ∷ l) = and (eq-eqb x x refl) (same-words l)
 
 pub apart : {A : Type 0} (f : A → List ℕ) (x y : A) → sameWords (f x) (f y) ≡ false → x ≡ y → ⊥
 apart f x y e p = clash (same-words (f x)) (sym (ap (λ z. sameWords (f x) (f z)) (sym p)) ∙ e)

@@ -1,5 +1,5 @@
 -- Where a buffer lies, as plain propositions over numbers: each of the four answers exactly if its condition holds.
-use Prim.Native.Nat.{ℕ, _≤_, _<_}
+use Prim.Native.Nat.{ℕ, _<_}
 use mathlib.Core.Path.{_≡_}
 use mathlib.Core.Logic.{_↔_, _≢_}
 use mathlib.Core.Bool.{true}
@@ -23,9 +23,9 @@ pub record LiesExactly (a : Areas) (break address size : ℕ) (area : Area) : Ty
   -- RAM and flash never both hold, so that none of the four goes by the order of the tests
   pub neverBoth : ¬ (Lies (a .ramStart) break address size × Lies (a .flashStart) (a .flashEnd) address size)
 
--- whoever says it, of a process on a good board whose break is not above the end of its RAM
+-- whoever says it, of a process on a good board, wherever its break is
 abbrev pub SaysWhere : (Areas → ℕ → Pair → Area) → Type 0
-SaysWhere areaOf = (b : Board) → goodBoard b ≡ true → (p break address size : ℕ) → p < length (b .processes) → break ≤ areasAt b p .ramEnd
+SaysWhere areaOf = (b : Board) → goodBoard b ≡ true → (p break address size : ℕ) → p < length (b .processes)
     → LiesExactly (areasAt b p) break address size (areaOf (areasAt b p) break (pair address size))
 
 -- what a host is told of a held buffer, whatever it asks of whatever table: its area exactly, and that is one that the process may lend memory of

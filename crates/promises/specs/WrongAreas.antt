@@ -1,19 +1,22 @@
 -- Wrong ways to say where a buffer lies, to be read; each is refuted on the board of the cases, by one buffer of process 0. And wrong answers to a host that asks, which the
 -- layer's statement refutes.
 use Prim.Native.Nat.{ℕ, suc, _+_, _≤_}
-use mathlib.Core.Path.{_≡_, refl, _∙_}
-use mathlib.Core.Bool.{Bool}
+use mathlib.Core.Path.{_≡_, refl, ap, _∙_}
+use mathlib.Core.Bool.{Bool, true}
 use mathlib.Core.List.{[]}
 use native.Mathlib.Omega.{arith}
 use lib.Dec.{eqb}
 use Rattle.definition.specs.Tests.{if_then_else_, contains, within}
-use Rattle.definition.specs.Board.{Areas, readOnly, areasAt}
-use Rattle.definition.specs.State.{Pair}
+use Rattle.definition.specs.Board.{Areas, Kind, readOnly, areasAt}
+use Rattle.definition.specs.State.{Pair, State}
 use Rattle.definition.specs.Call.{pair}
 use Rattle.definition.specs.Area.{Area, empty, inRam, inFlash, outside}
-use Rattle.definition.specs.Located.{Located, refused, lies, locate}
+use Rattle.definition.specs.WellFormed.{goodState}
+use Rattle.definition.specs.Image.{imageOf}
+use Rattle.definition.specs.Located.{Located, refused, lies, located, locate}
 use Rattle.definition.specs.Cases.{areas, board, board-good, onTable}
-use Rattle.definition.specs.AreaCases.{lent, flash-told, no-table}
+use Rattle.definition.specs.AreaCases.{lends, asked, lent, flash-told, no-table}
+use Rattle.laws.specs.ImageBack.{good-back, image-well-formed}
 use Rattle.promises.specs.WhichArea.{LiesExactly, SaysWhere}
 
 -- ---- the wrong ways
@@ -56,7 +59,7 @@ always a break x = inRam
 module _ (areaOf : Areas → ℕ → Pair → Area) (s : SaysWhere areaOf) (address size : ℕ) where
   exact : LiesExactly (areasAt board 0) 0x20001000 address size (areaOf (areasAt board 0) 0x20001000 (pair address size))
   unfolding board areas
-  exact = s board board-good 0 0x20001000 address size (omega arith) (omega arith)
+  exact = s board board-good 0 0x20001000 address size (omega arith)
 
   -- in RAM it ends at the break or below; in flash it has a size
   ram-ends : areaOf (areasAt board 0) 0x20001000 (pair address size) ≡ inRam → address + size ≤ 0x20001000
@@ -94,3 +97,13 @@ area-unrefused r other e = other (e ∙ no-table)
 -- any other area, address or size, and any refusal
 pub area-elsewhere : (r : Located) → (r ≡ lies inFlash (pair 0x00040010 3) → ⊥) → ¬ (r ≡ locate readOnly 0 1 0 lent)
 area-elsewhere r other e = other (e ∙ flash-told)
+
+-- a question about the image of a good state is answered on that state
+on-image : (s : State) → goodState s ≡ true → (kind : Kind) (p driver j : ℕ) → locate kind p driver j (imageOf s) ≡ located kind p driver j s
+unfolding locate if_then_else_
+on-image s g kind p driver j = rw (image-well-formed s g) (ap (located kind p driver j) (good-back s g))
+
+-- the buffer of slot 0, or any other, told of slot 1, which the driver does not have
+pub area-another-slot : (r : Located) → (r ≡ refused 8 → ⊥) → ¬ (r ≡ locate readOnly 0 1 1 lent)
+unfolding asked lends lent
+area-another-slot r other e = other (e ∙ on-image (lends .state) refl readOnly 0 1 1)
