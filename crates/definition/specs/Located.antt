@@ -24,15 +24,15 @@ hasBuffer readWrite b k j = hasSlot readWrite b k j
 hasBuffer readOnly b k j = hasSlot readOnly b k j
 
 -- rows 3, 7 and 8 of the table of refusals, of a question for that slot of process p
-abbrev pub bufferRows : Kind → Board → (p k j : ℕ) → List Row
-bufferRows kind b p k j = 3 when not (ltb p (length (b .processes))) ∷ 7 when not (installed b k) ∷ 8 when not (hasBuffer kind b k j) ∷ []
+abbrev pub questionRows : Kind → Board → (p k j : ℕ) → List Row
+questionRows kind b p k j = 3 when not (ltb p (length (b .processes))) ∷ 7 when not (installed b k) ∷ 8 when not (hasBuffer kind b k j) ∷ []
 
 -- an exited process, which holds nothing, can be asked about
 unfoldable pub located : Kind → (process driver slot : ℕ) → State → Located
 located kind p driver j s =
     let k = placeOf (s .board .drivers) driver in
     let x = held kind (processAt s p) k j in
-    let n = firstOf (bufferRows kind (s .board) p k j) in
+    let n = firstOf (questionRows kind (s .board) p k j) in
     if eqb n 0 then lies (areaOf (areasAt (s .board) p) (processAt s p .break) x) x else refused n
 
 -- row 2 stands before them

@@ -53,9 +53,13 @@ module _ (step : Lent → Out Lent) (x : Lent) (out : List ℕ) where
       let room : leb 6 (length out) ≡ true = le-leb 6 (length out) h in
       rw room (ap₂ (λ (o : Out Lent) (l : List ℕ). told true (o .after) l) e (ap (λ (o : Out Lent). answerWords (o .answer) ++ drop 6 out) e ∙ sym w))
 
--- the words of an answer whose variant is known
-pub words-told : {a b : Code} → a ≡ b → answerWords (answerOf b) ≡ answerWords (answerOf a)
-words-told e = sym (ap (λ (a : Code). answerWords (answerOf a)) e)
+-- the words of what has a variant that is known
+pub words-told : {A : Type 0} (words : A → List ℕ) {a b : A} → a ≡ b → words b ≡ words a
+words-told words e = sym (ap words e)
+
+-- of an answer
+pub answer-told : {a b : Code} → a ≡ b → answerWords (answerOf b) ≡ answerWords (answerOf a)
+answer-told = words-told (λ (a : Code). answerWords (answerOf a))
 
 -- ---- of a fetch
 
@@ -83,7 +87,7 @@ module _ (p driver j offset n : ℕ) (x : Lent) where
 
 -- the words of what was found, by its variant; of a buffer by the number of its area
 pub located-told : {a b : Located} → a ≡ b → locatedWords (locatedOf b) ≡ locatedWords (locatedOf a)
-located-told e = sym (ap (λ (a : Located). locatedWords (locatedOf a)) e)
+located-told = words-told (λ (a : Located). locatedWords (locatedOf a))
 
 pub lies-told : (a : Located) (area : Area) (x : Pair) (n : ℕ) → a ≡ says.Lies area x → n ≡ areaNumber (areaNamed area) → (12 ∷ n ∷ x .0 ∷ x .1 ∷ 0 ∷ 0 ∷ []) ≡ locatedWords (locatedOf a)
 lies-told a area x n e q = ap (λ (n : ℕ). 12 ∷ n ∷ x .0 ∷ x .1 ∷ 0 ∷ 0 ∷ []) q ∙ located-told e

@@ -12,11 +12,11 @@ use Rattle.definition.specs.State.{Pair, held}
 use Rattle.definition.specs.Area.{Area, areaOf}
 use Rattle.definition.specs.World.{processAt}
 use Rattle.definition.specs.Image.{driversFrom, stateOf, wellFormed, boardAt}
-use Rattle.definition.specs.Located.{refused, lies, hasBuffer, bufferRows, located, locate}
+use Rattle.definition.specs.Located.{refused, lies, hasBuffer, questionRows, located, locate}
 use Rattle.laws.specs.Reads.{processes-so, place-so}
 use Rattle.types.specs.Meaning.{kindOf}
 use Rattle.types.specs.declared.Kind as Code
-use Rattle.layer.specs.Steps.{namedRows}
+use Rattle.layer.specs.Steps.{namedRefusal}
 
 -- ---- rows 7 and 8 after row 3; a subscribe slot holds no buffer
 
@@ -27,7 +27,7 @@ leftFor readWrite = 0
 leftFor readOnly = 0
 
 module _ (t : List ℕ) (p k j : ℕ) where
-  pub no-process : (kind : Kind) → getD t 0 0 ≤ p → 3 ≡ firstOf (bufferRows kind (stateOf t .board) p k j)
+  pub no-process : (kind : Kind) → getD t 0 0 ≤ p → 3 ≡ firstOf (questionRows kind (stateOf t .board) p k j)
   unfolding firstOf if_then_else_
   no-process kind h = rw (processes-so t, le-ltb p (getD t 0 0) h)
 
@@ -35,11 +35,11 @@ module _ (t : List ℕ) (p k j : ℕ) where
     lastRows : Kind → List Row
     lastRows kind = 7 when not (installed (stateOf t .board) k) ∷ 8 when not (hasBuffer kind (stateOf t .board) k j) ∷ []
 
-    past-process : (kind : Kind) → firstOf (bufferRows kind (stateOf t .board) p k j) ≡ firstOf (lastRows kind)
+    past-process : (kind : Kind) → firstOf (questionRows kind (stateOf t .board) p k j) ≡ firstOf (lastRows kind)
     unfolding firstOf if_then_else_ lastRows
     past-process kind = rw (processes-so t, lt-ltb p (getD t 0 0) known)
 
-    pub named-refused : (kind : Kind) → n ≡ firstOf (namedRows kind (stateOf t) k j) → (n ≡ 0 → ⊥) → n ≡ firstOf (bufferRows kind (stateOf t .board) p k j)
+    pub named-refused : (kind : Kind) → n ≡ namedRefusal kind (stateOf t) k j → (n ≡ 0 → ⊥) → n ≡ firstOf (questionRows kind (stateOf t .board) p k j)
     unfolding firstOf if_then_else_ lastRows hasBuffer
     named-refused kind e h = go kind (installed (stateOf t .board) k) (hasSlot kind (stateOf t .board) k j) refl refl e ∙ sym (past-process kind)
       where
@@ -50,7 +50,7 @@ module _ (t : List ℕ) (p k j : ℕ) where
         go readOnly true false q r e = rw (q, r) e
         go kind true true q r e = absurd (h e)
 
-    pub named-there : (kind : Kind) → n ≡ firstOf (namedRows kind (stateOf t) k j) → n ≡ 0 → leftFor kind ≡ firstOf (bufferRows kind (stateOf t .board) p k j)
+    named-there : (kind : Kind) → n ≡ namedRefusal kind (stateOf t) k j → n ≡ 0 → leftFor kind ≡ firstOf (questionRows kind (stateOf t .board) p k j)
     unfolding firstOf if_then_else_ lastRows hasBuffer
     named-there kind e z = go kind (installed (stateOf t .board) k) (hasSlot kind (stateOf t .board) k j) refl refl (sym z ∙ e) ∙ sym (past-process kind)
       where
@@ -61,12 +61,12 @@ module _ (t : List ℕ) (p k j : ℕ) where
         go readWrite true true q r e = rw (q, r)
         go readOnly true true q r e = rw (q, r)
 
-    pub left-for : (kind found : Code.Kind) → kind ≡ found → n ≡ firstOf (namedRows (kindOf kind) (stateOf t) k j) → n ≡ 0 → leftFor (kindOf found) ≡ firstOf (bufferRows (kindOf kind) (stateOf t .board) p k j)
+    pub left-for : (kind found : Code.Kind) → kind ≡ found → n ≡ namedRefusal (kindOf kind) (stateOf t) k j → n ≡ 0 → leftFor (kindOf found) ≡ firstOf (questionRows (kindOf kind) (stateOf t .board) p k j)
     left-for kind found e rows z = ap (λ y. leftFor (kindOf y)) (sym e) ∙ named-there (kindOf kind) rows z
 
 -- ---- a host that asks, where n is the number that the code found
 
-module _ (t : List ℕ) (kind : Kind) (p driver j k n : ℕ) (at : k ≡ placeOf (boardAt t driversFrom .drivers) driver) (rows : n ≡ firstOf (bufferRows kind (stateOf t .board) p k j)) where
+module _ (t : List ℕ) (kind : Kind) (p driver j k n : ℕ) (at : k ≡ placeOf (boardAt t driversFrom .drivers) driver) (rows : n ≡ firstOf (questionRows kind (stateOf t .board) p k j)) where
   pub asked-refused : (n ≡ 0 → ⊥) → refused n ≡ located kind p driver j (stateOf t)
   unfolding located if_then_else_
   asked-refused h = rw (sym (at ∙ place-so t driver), sym rows, ne-eqb n 0 h)

@@ -12,6 +12,7 @@ pub mod Decodes
 pub mod AcceptedExactly
 -- ---- where a buffer lies
 pub mod AreaExactly
+pub mod LocatedExactly
 -- ---- demand 3
 pub mod Guarded
 pub mod Isolation

@@ -1,7 +1,7 @@
 -- Wrong ways to say where a buffer lies, to be read; each is refuted on the board of the cases, by one buffer of process 0. And wrong answers to a host that asks, which the
 -- layer's statement refutes.
 use Prim.Native.Nat.{ℕ, suc, _+_, _≤_}
-use mathlib.Core.Path.{_≡_, refl, ap, _∙_}
+use mathlib.Core.Path.{_≡_, refl, sym, ap, _∙_}
 use mathlib.Core.Bool.{Bool, true}
 use mathlib.Core.List.{[]}
 use native.Mathlib.Omega.{arith}
@@ -16,8 +16,10 @@ use Rattle.definition.specs.Image.{imageOf}
 use Rattle.definition.specs.Located.{Located, refused, lies, located, locate}
 use Rattle.definition.specs.Cases.{areas, board, board-good, onTable}
 use Rattle.definition.specs.AreaCases.{lends, asked, lent, flash-told, no-table}
+use Rattle.laws.specs.Facts.{never}
 use Rattle.laws.specs.ImageBack.{good-back, image-well-formed}
-use Rattle.promises.specs.WhichArea.{LiesExactly, SaysWhere}
+use Rattle.promises.specs.WhichArea.{LiesExactly, SaysWhere, TellsWhere}
+use Rattle.promises.specs.LocatedExactly.{one-answer}
 
 -- ---- the wrong ways
 
@@ -50,8 +52,8 @@ flashFirst a break x =
     else outside
 
 -- every buffer is in RAM
-unfoldable pub always : Areas → ℕ → Pair → Area
-always a break x = inRam
+unfoldable pub alwaysRam : Areas → ℕ → Pair → Area
+alwaysRam a break x = inRam
 
 -- ---- refuted
 
@@ -68,25 +70,32 @@ module _ (areaOf : Areas → ℕ → Pair → Area) (s : SaysWhere areaOf) (addr
   flash-some : areaOf (areasAt board 0) 0x20001000 (pair address size) ≡ inFlash → size ≡ 0 → ⊥
   flash-some e = exact .flash .0 e .0
 
+-- whoever says RAM of a buffer that ends above the break, and whoever says flash of an empty one
+pub ram-past-wrong : (areaOf : Areas → ℕ → Pair → Area) (address size : ℕ) → areaOf (areasAt board 0) 0x20001000 (pair address size) ≡ inRam → (address + size ≤ 0x20001000 → ⊥) → ¬ SaysWhere areaOf
+ram-past-wrong areaOf address size e past s = past (ram-ends areaOf s address size e)
+
+pub flash-empty-wrong : (areaOf : Areas → ℕ → Pair → Area) (address : ℕ) → areaOf (areasAt board 0) 0x20001000 (pair address 0) ≡ inFlash → ¬ SaysWhere areaOf
+flash-empty-wrong areaOf address e s = flash-some areaOf s address 0 e refl
+
 pub one-past-wrong : ¬ SaysWhere onePast
 unfolding onePast board areas onTable
-one-past-wrong s = absurd (omega (arith, ram-ends onePast s 0x20000F00 0x101 refl))
+one-past-wrong = ram-past-wrong onePast 0x20000F00 0x101 refl (λ h. omega (arith, h))
 
 pub straddles-wrong : ¬ SaysWhere straddles
 unfolding straddles board areas onTable
-straddles-wrong s = absurd (omega (arith, ram-ends straddles s 0x20000FFF 0x100 refl))
+straddles-wrong = ram-past-wrong straddles 0x20000FFF 0x100 refl (λ h. omega (arith, h))
 
 pub to-the-end-wrong : ¬ SaysWhere toTheEnd
 unfolding toTheEnd board areas onTable
-to-the-end-wrong s = absurd (omega (arith, ram-ends toTheEnd s 0x20001000 0x100 refl))
+to-the-end-wrong = ram-past-wrong toTheEnd 0x20001000 0x100 refl (λ h. omega (arith, h))
 
 pub flash-first-wrong : ¬ SaysWhere flashFirst
 unfolding flashFirst board areas onTable
-flash-first-wrong s = flash-some flashFirst s 0x00040000 0 refl refl
+flash-first-wrong = flash-empty-wrong flashFirst 0x00040000 refl
 
-pub always-wrong : ¬ SaysWhere always
-unfolding always board areas onTable
-always-wrong s = absurd (omega (arith, ram-ends always s 0x20001000 1 refl))
+pub always-ram-wrong : ¬ SaysWhere alwaysRam
+unfolding alwaysRam board areas onTable
+always-ram-wrong = ram-past-wrong alwaysRam 0x20001000 1 refl (λ h. omega (arith, h))
 
 -- ---- wrong answers to a host that asks: of no word at all, and of the table of the cases, on which process 0 lends a buffer in flash
 
@@ -107,3 +116,16 @@ on-image s g kind p driver j = rw (image-well-formed s g) (ap (located kind p dr
 pub area-another-slot : (r : Located) → (r ≡ refused 8 → ⊥) → ¬ (r ≡ locate readOnly 0 1 1 lent)
 unfolding asked lends lent
 area-another-slot r other e = other (e ∙ on-image (lends .state) refl readOnly 0 1 1)
+
+-- ---- wrong ways to answer a host: none but the definition's has the promise
+
+-- every question is refused, by one number
+pub always-refused-wrong : (n : ℕ) → ¬ TellsWhere (λ kind p driver j t. refused n)
+always-refused-wrong n s = area-elsewhere (refused n) (λ e. never (cc)) (one-answer (λ kind p driver j t. refused n) s readOnly 0 1 0 lent)
+
+-- whichever slot is asked for, slot 0 is told
+pub slot-0-wrong : ¬ TellsWhere (λ kind p driver j t. locate kind p driver 0 t)
+slot-0-wrong s = area-another-slot (locate readOnly 0 1 0 lent) (λ e. never (lies-refused (sym flash-told ∙ e))) (one-answer (λ kind p driver j t. locate kind p driver 0 t) s readOnly 0 1 1 lent)
+  where
+    lies-refused : lies inFlash (pair 0x00040010 3) ≡ refused 8 → _≡_ {A = ℕ} 0 1
+    lies-refused e = cc

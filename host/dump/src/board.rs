@@ -6,9 +6,9 @@ use second::text::names::Style;
 use second::text::value::show;
 
 use crate::fold::{Entry, Piece, Zeros};
-use crate::layout::limited;
+use crate::layout::{limited, JOINED};
 use crate::names;
-use crate::reading::Reading;
+use crate::reading::{mark, Reading};
 
 /// A count, which can be beyond what there are rows for.
 pub fn count_word(reading: &Reading, at: usize, most: usize) -> Piece {
@@ -22,7 +22,8 @@ pub fn process_row(reading: &Reading, process: usize, pieces: &mut Vec<Piece>) {
     if !in_use && reading.is_zero(words.clone()) {
         return pieces.push(Piece::Entry(Entry::zeros(words, Zeros::Processes)));
     }
-    pieces.push(Piece::heading(format!("process {process} on the board")));
+    let which = if in_use { " on the board" } else { ", which the board does not have" };
+    pieces.push(Piece::heading(format!("process {process}{which}")));
     for (at, (short, what)) in words.zip(names::PROCESS) {
         let name = if what.is_empty() { String::from(short) } else { format!("{short}, {what}") };
         let value = match at - from {
@@ -33,8 +34,11 @@ pub fn process_row(reading: &Reading, process: usize, pieces: &mut Vec<Piece>) {
     }
 }
 
-/// The mask, the driver of each bit, and the bits that are no driver's.
+/// The mask and, if the words go as far as to say which there are, the driver of each bit, and the bits that are no driver's.
 fn permissions(reading: &Reading, mask: u32) -> String {
+    if !reading.has_word(DRIVERS_FROM) {
+        return format!("0x{mask:X}");
+    }
     let set = (0..u32::BITS).filter(|place| mask >> place & 1 == 1);
     let (drivers, others): (Vec<u32>, Vec<u32>) =
         set.partition(|&place| (place as usize) < reading.drivers());
@@ -47,10 +51,10 @@ fn permissions(reading: &Reading, mask: u32) -> String {
     };
     match others.as_slice() {
         [] => format!("0x{mask:X}, {drivers}"),
-        others => format!(
-            "0x{mask:X}, {drivers}  ! no driver at {}",
-            list(others, &|place| place.to_string())
-        ),
+        others => {
+            let others = list(others, &|place| place.to_string());
+            format!("0x{mask:X}, {drivers}{}{JOINED}{others}", mark("  ! no driver at"))
+        }
     }
 }
 
@@ -63,10 +67,15 @@ pub fn driver_row(reading: &Reading, place: usize) -> Piece {
     }
     let [number, slots @ .., shared] = reading.row::<DRIVER_WORDS>(from);
     let [subscribe, read_write, read_only] = slots.map(slot_count);
-    let value = format!(
-        "number 0x{number:X} subscribe {subscribe} read-write {read_write} read-only {read_only} \
-         shared {shared}"
-    );
+    let value = [
+        format!("number 0x{number:X}"),
+        format!("subscribe {subscribe}"),
+        format!("read-write {read_write}"),
+        format!("read-only {read_only}"),
+        format!("shared {shared}"),
+    ]
+    .map(|field| mark(&field))
+    .join(" ");
     reading.piece(words, format!("driver {place}"), value, in_use)
 }
 
@@ -82,7 +91,7 @@ pub fn claim_row(reading: &Reading, place: usize) -> Piece {
     let from = CLAIMS_FROM + place * CLAIM_WORDS;
     let words = from..from + CLAIM_WORDS;
     let in_use = place < reading.drivers();
-    let shared = in_use && reading.driver(place).shared;
+    let shared = in_use && reading.is_shared(place);
     if !shared && reading.is_zero(words.clone()) {
         let zeros = if in_use { Zeros::Unclaimable } else { Zeros::Claims };
         return Piece::Entry(Entry::zeros(words, zeros));

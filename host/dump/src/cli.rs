@@ -3,7 +3,7 @@
 use std::ffi::{OsStr, OsString};
 use std::fs::{self, File};
 use std::io::{self, Read, Write};
-use std::path::Path;
+use std::path::{Path, PathBuf};
 
 use second::text::names::Style;
 use second::text::parse::assemble;
@@ -13,6 +13,9 @@ use second::trace::MAX_TRACE_BYTES;
 use crate::table::dump;
 use crate::trace::{to_byte, to_end, Run};
 use crate::words::{from_bytes, from_text, plain, to_bytes};
+
+/// Most bytes of a file, a trace apart: some four thousand times what a table has.
+const MOST_BYTES: u64 = 1 << 26;
 
 /// Also printed by `./dump`, which needs no program for it.
 pub const USAGE: &str = include_str!("../usage.txt");
@@ -147,12 +150,12 @@ pub fn run(command: &Command, out: &mut impl Write) -> Result<(), Failure> {
     match command {
         Command::Help => print(out, USAGE),
         Command::Words { file } => {
-            let words = from_bytes(&read(file, u64::MAX)?).map_err(|error| of(file, error))?;
+            let words = from_bytes(&read_all(file)?).map_err(|error| of(file, error))?;
             print(out, &dump(&words))
         }
         Command::Text { file } => {
             // What is no text is an error like any other word.
-            let bytes = read(file, u64::MAX)?;
+            let bytes = read_all(file)?;
             let text = String::from_utf8_lossy(&bytes);
             print(out, &dump(&from_text(&text).map_err(|error| of(file, error))?))
         }
@@ -187,7 +190,7 @@ fn run_trace(
 fn each(file: &OsStr, trace: &[u8], out: &mut impl Write) -> Result<(), Failure> {
     let mut run = Run::start(trace).map_err(|error| of(file, error))?;
     print(out, &titled(&run))?;
-    while run.step().map_err(|error| of(file, error))? {
+    while run.step().map_err(|error| of(file, error.into()))? {
         print(out, &format!("\n{}", titled(&run)))?;
     }
     Ok(())
@@ -209,9 +212,18 @@ fn read_trace(file: &OsStr) -> Result<Vec<u8>, Failure> {
         // One byte more than a trace may have is enough to see that it is too long.
         return Ok(read(file, MAX_TRACE_BYTES as u64 + 1)?);
     }
-    let bytes = read(file, u64::MAX)?;
+    let bytes = read_all(file)?;
     let text = String::from_utf8_lossy(&bytes);
     Ok(assemble(&text).map_err(|error| of(file, error.to_string()))?)
+}
+
+/// A file whole.
+fn read_all(file: &OsStr) -> Result<Vec<u8>, String> {
+    let bytes = read(file, MOST_BYTES + 1)?;
+    if bytes.len() as u64 > MOST_BYTES {
+        return Err(of(file, format!("it has more than {MOST_BYTES} bytes")));
+    }
+    Ok(bytes)
 }
 
 /// The first bytes of a file, at most so many.
@@ -226,18 +238,27 @@ fn read(file: &OsStr, most: u64) -> Result<Vec<u8>, String> {
     Ok(bytes)
 }
 
-/// Writes a file that is whole or not there: beside it first, unless it is something else than a plain file.
+/// Writes a file that is whole or as it was: beside it first, unless it is something else than a plain file.
 fn write_whole(file: &OsStr, bytes: &[u8]) -> Result<(), String> {
-    let path = Path::new(file);
-    let written = if fs::metadata(path).is_ok_and(|about| !about.is_file()) {
-        File::options().write(true).open(path).and_then(|mut opened| opened.write_all(bytes))
-    } else {
-        let mut beside = file.to_owned();
-        beside.push(".part");
-        let done = fs::write(&beside, bytes).and_then(|()| fs::rename(&beside, path));
-        done.inspect_err(|_| drop(fs::remove_file(&beside)))
+    // Where a link leads to; a file that is not there yet has no such place.
+    let path = fs::canonicalize(file).unwrap_or_else(|_| PathBuf::from(file));
+    let written = match fs::metadata(&path) {
+        Ok(about) if !about.is_file() => {
+            File::options().write(true).open(&path).and_then(|mut opened| opened.write_all(bytes))
+        }
+        Ok(_) => File::options().write(true).open(&path).and_then(|_| replace(&path, bytes)),
+        Err(_) => replace(&path, bytes),
     };
     written.map_err(|error| of(file, error.to_string()))
+}
+
+/// By way of a file of its own name beside it: none that is there is touched.
+fn replace(path: &Path, bytes: &[u8]) -> io::Result<()> {
+    let mut beside = path.as_os_str().to_owned();
+    beside.push(format!(".{}.part", std::process::id()));
+    let mut part = File::options().write(true).create_new(true).open(&beside)?;
+    let done = part.write_all(bytes).and_then(|()| fs::rename(&beside, path));
+    done.inspect_err(|_| drop(fs::remove_file(&beside)))
 }
 
 fn of(file: &OsStr, error: String) -> String {

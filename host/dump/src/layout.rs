@@ -9,13 +9,17 @@ pub const PLACES: usize = 12;
 /// Columns that a name has at least, so that most values stand below each other.
 pub const NAME: usize = 24;
 
-/// A line with a label at the left; what is too long goes on below, behind the label's columns.
+/// Stands for a space at which no line is parted.
+pub const JOINED: char = '\u{1f}';
+
+/// A line with a label at the left; what is too long goes on below, behind the label's columns. A label that fills them has a space behind it.
 pub fn labelled(label: &str, text: &str) -> String {
     let mut out = String::new();
     let (mut label, mut rest) = (label, text.trim_end());
     loop {
         let (line, more) = part(rest, PAGE - PLACES);
-        out += format!("{label:PLACES$}{line}").trim_end();
+        let width = PLACES - 1;
+        out += format!("{label:width$} {line}").replace(JOINED, " ").trim_end();
         out.push('\n');
         if more.is_empty() {
             return out;

@@ -1,7 +1,7 @@
 //! A process's memory in bars of text.
 //!
-//! A column stands for an equal part of the area, and has the character of its first byte. A buffer's bar has every column that one of its
-//! bytes lies in, so that the smallest has one.
+//! A column stands for an equal part of the area, and has the character of its first byte; but what has a byte has a column, be it below the
+//! break, free or the grant region. A buffer's bar has every column that one of its bytes lies in, so that the smallest has one.
 
 use std::ops::Range;
 
@@ -72,10 +72,11 @@ pub fn ram(
     if !(start < end && start <= app_break && app_break <= grant && grant <= end) {
         return Err("S, the break, G and E are not in order");
     }
+    let [below, free] = parts(area, app_break, grant);
     let drawn: String = (0..COLUMNS)
-        .map(|column| match first_byte(area, column) {
-            byte if byte < u64::from(app_break) => BELOW_BREAK,
-            byte if byte < u64::from(grant) => FREE,
+        .map(|column| match column {
+            _ if column < below => BELOW_BREAK,
+            _ if column < free => FREE,
             _ => GRANT,
         })
         .collect();
@@ -125,9 +126,17 @@ fn length(area: Area) -> u64 {
     u64::from(area.end) - u64::from(area.start)
 }
 
-/// The byte that a column begins in.
-fn first_byte(area: Area, column: usize) -> u64 {
-    u64::from(area.start) + column as u64 * length(area) / COLUMNS as u64
+/// The columns at which what is free and the grant region begin, S <= break <= G <= E.
+fn parts(area: Area, app_break: u32, grant: u32) -> [usize; 2] {
+    let [below, free, granted] =
+        [area.start < app_break, app_break < grant, grant < area.end].map(usize::from);
+    let begins = |byte: u32| columns_of(area, &(u64::from(area.start)..u64::from(byte))).end;
+    let break_at = begins(app_break).clamp(below, COLUMNS - free - granted);
+    let grant_at = match free {
+        0 => break_at,
+        _ => begins(grant).clamp(break_at + free, COLUMNS - granted),
+    };
+    [break_at, grant_at]
 }
 
 /// The columns of bytes that lie in the area.

@@ -3,8 +3,8 @@
 use std::ops::Range;
 
 use second::board::{
-    DriverBoard, DriverPlace, ProcessBoard, SlotKind, DRIVER_WORDS, MAX_DRIVERS, MAX_PROCESSES,
-    PROCESS_WORDS,
+    field, DriverBoard, DriverPlace, ProcessBoard, SlotKind, DRIVER_WORDS, MAX_DRIVERS,
+    MAX_PROCESSES, PROCESS_WORDS,
 };
 use second::state::{Pair, Slot, QUEUE_CAPACITY};
 use second::table::{
@@ -12,14 +12,23 @@ use second::table::{
 };
 
 use crate::fold::{Entry, Piece};
+use crate::layout::JOINED;
 use crate::names;
 
 /// Stands behind what is not zero where only zeros may be.
 const ONLY_ZEROS: &str = "  ! only 0 may stand here";
 
+/// What is said behind a value, in one line.
+pub fn mark(text: &str) -> String {
+    let (spaces, words) = text.split_at(text.len() - text.trim_start().len());
+    String::from(spaces) + &words.replace(' ', &String::from(JOINED))
+}
+
 /// What stands where in words of any length: those that are missing are read as zeros, those past the end are left out.
 pub struct Reading {
     words: Vec<u32>,
+    /// How many of them there are.
+    there: usize,
     /// By the proved check.
     pub well_formed: bool,
 }
@@ -29,7 +38,7 @@ impl Reading {
         let mut table = vec![0; TABLE_WORDS];
         let there = words.len().min(TABLE_WORDS);
         table[..there].copy_from_slice(&words[..there]);
-        Reading { words: table, well_formed: makvluria::is_well_formed(words) }
+        Reading { words: table, there, well_formed: makvluria::is_well_formed(words) }
     }
 
     /// All words of a table.
@@ -47,6 +56,11 @@ impl Reading {
         (self.words[0] as usize).min(MAX_PROCESSES)
     }
 
+    /// Whether the words go on past this place.
+    pub fn has_word(&self, at: usize) -> bool {
+        at < self.there
+    }
+
     /// How many drivers have rows in use.
     pub fn drivers(&self) -> usize {
         (self.words[DRIVERS_FROM] as usize).min(MAX_DRIVERS)
@@ -60,13 +74,21 @@ impl Reading {
         DriverBoard::from_words(&self.row(DRIVERS_FROM + 1 + place * DRIVER_WORDS))
     }
 
-    /// A driver by its place, and its number if the board has one there.
+    /// A driver by its place, and its number if the board has one there and the words go so far.
     pub fn driver_name(&self, place: u32) -> String {
-        if (place as usize) < self.drivers() {
+        let row = DRIVERS_FROM + 1 + (place as usize).saturating_mul(DRIVER_WORDS);
+        if place as usize >= self.drivers() {
+            format!("driver {place} (none on the board)")
+        } else if self.has_word(row) {
             format!("driver {place} (0x{:X})", self.driver(place as usize).number.0)
         } else {
-            format!("driver {place} (none on the board)")
+            format!("driver {place}")
         }
+    }
+
+    /// Whether a driver's word says that it is shared. Only 1 may stand there for that; any other number but 0 is taken for it.
+    pub fn is_shared(&self, place: usize) -> bool {
+        self.row::<DRIVER_WORDS>(DRIVERS_FROM + 1 + place * DRIVER_WORDS)[field::SHARED] != 0
     }
 
     /// Whether the board has this slot.
@@ -109,8 +131,9 @@ impl Reading {
         value: String,
         in_use: bool,
     ) -> Piece {
-        let mark = if in_use || self.is_zero(words.clone()) { "" } else { ONLY_ZEROS };
-        Piece::Entry(Entry::named(words, name, value + mark))
+        let marked = !in_use && !self.is_zero(words.clone());
+        let mark = if marked { mark(ONLY_ZEROS) } else { String::new() };
+        Piece::Entry(Entry::named(words, name, value + &mark))
     }
 
     /// One word by its name.

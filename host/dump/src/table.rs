@@ -16,7 +16,7 @@ pub fn dump(words: &[u32]) -> String {
     let mut out = verdict(words, reading.well_formed) + "\n";
     if !reading.well_formed {
         out += &paragraph(
-            "where a buffer lies is told by this tool's own rule: the proved library refuses the table",
+            "where a buffer lies is told by the second program's rule: the proved library refuses the table",
         );
     }
     out += &fold::write(&parts::cut(parts::pieces(&reading, words.len()), words));

@@ -17,6 +17,24 @@ use crate::names;
 const NOT_THE_SAME: &str =
     "the second program answers otherwise: the words would not be those of the proved run";
 
+/// Why a step is not made.
+#[derive(Clone, Debug, PartialEq, Eq)]
+pub enum Stopped {
+    /// The record is broken; the run stands before it.
+    Broken(String),
+    /// The two programs answer otherwise: nothing more can be said of the run.
+    Otherwise,
+}
+
+impl From<Stopped> for String {
+    fn from(stopped: Stopped) -> String {
+        match stopped {
+            Stopped::Broken(error) => error,
+            Stopped::Otherwise => String::from(NOT_THE_SAME),
+        }
+    }
+}
+
 /// A run that has started.
 pub struct Run<'a> {
     trace: &'a [u8],
@@ -55,10 +73,11 @@ impl<'a> Run<'a> {
         self.layer.table()
     }
 
-    /// Makes the next step. False at the end; an error at a record that is broken, and the table stays.
-    pub fn step(&mut self) -> Result<bool, String> {
+    /// Makes the next step. False at the end; an error where it is not made.
+    pub fn step(&mut self) -> Result<bool, Stopped> {
         let from = self.place();
-        let made = self.records.make_step().map_err(|fault| broken(from, &fault))?;
+        let made = self.records.make_step();
+        let made = made.map_err(|fault| Stopped::Broken(broken(from, &fault)))?;
         let Some(Made { text, answer, outcome: Some(outcome) }) = made else {
             return Ok(false);
         };
@@ -73,11 +92,11 @@ impl<'a> Run<'a> {
     }
 
     /// Has the library make the record that begins there and ends where the second program has come to.
-    fn make(&mut self, from: usize, expected: &[u8]) -> Result<(), String> {
+    fn make(&mut self, from: usize, expected: &[u8]) -> Result<(), Stopped> {
         let to_here = &self.trace[..self.records.place()];
         match self.layer.replay(to_here, from, &mut self.room) {
             Progress::Ended { written } if self.room[..written] == *expected => Ok(()),
-            _ => Err(String::from(NOT_THE_SAME)),
+            _ => Err(Stopped::Otherwise),
         }
     }
 
@@ -101,12 +120,16 @@ impl<'a> Run<'a> {
 
 /// A run that has come to its end, or to a record that is broken, with what is wrong there.
 pub fn to_end(trace: &[u8]) -> Result<(Run<'_>, Option<String>), String> {
-    let mut run = Run::start(trace)?;
+    finished(Run::start(trace)?)
+}
+
+fn finished(mut run: Run) -> Result<(Run, Option<String>), String> {
     loop {
         match run.step() {
             Ok(true) => (),
             Ok(false) => return Ok((run, None)),
-            Err(error) => return Ok((run, Some(error))),
+            Err(Stopped::Broken(error)) => return Ok((run, Some(error))),
+            Err(otherwise) => return Err(otherwise.into()),
         }
     }
 }
@@ -121,7 +144,9 @@ pub fn to_byte(trace: &[u8], at: usize) -> Result<(Run<'_>, Option<String>), Str
         match run.step() {
             Ok(true) => last = from,
             Ok(false) => return Err(no_record(at, last, &format!("the trace ends at {from}"))),
-            Err(error) => return Err(no_record(at, last, &error)),
+            // The table at the broken record can be had.
+            Err(Stopped::Broken(error)) => return Err(no_record(at, from, &error)),
+            Err(otherwise) => return Err(otherwise.into()),
         }
     }
     match run.place() {
@@ -160,5 +185,26 @@ fn board_text(words: &[u32], BoardFault { word, reason }: BoardFault) -> String 
             let words = count(words.len(), "word", "words");
             format!("the board is not good: it has {words}, and none for {name}: {reason}")
         }
+    }
+}
+
+#[cfg(test)]
+mod tests {
+    use super::*;
+
+    const INCIDENT: &[u8] = include_bytes!("../../../examples/incident.trace");
+
+    /// A run whose library has made a step that the second program does not know of: process 0 has exited.
+    fn other_run() -> Run<'static> {
+        let mut run = Run::start(INCIDENT).unwrap();
+        let exit = [0; 4];
+        let _ = run.layer.call(makvluria::Process(0), makvluria::Class::EXIT, exit);
+        run
+    }
+
+    #[test]
+    fn a_step_that_is_answered_otherwise_stops_the_run() {
+        assert_eq!(other_run().step(), Err(Stopped::Otherwise));
+        assert_eq!(finished(other_run()).err(), Some(String::from(NOT_THE_SAME)));
     }
 }

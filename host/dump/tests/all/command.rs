@@ -1,7 +1,7 @@
 //! The command: what it is asked wrongly, and what it cannot do, each told in one line with a status.
 
 use std::fs::{self, File};
-use std::process::{Command, Stdio};
+use std::process::{Command, Output, Stdio};
 
 use second::board::{MAX_PROCESSES, PROCESS_WORDS};
 use second::table::TABLE_WORDS;
@@ -107,7 +107,7 @@ fn broken_traces() {
     let each = broken(&["--trace", "-", "--each"], cut, told);
     assert_eq!(each.matches("at byte ").count(), 3);
     assert!(printed(dump(&["--trace", "-", "--at", "82"], cut)).starts_with("at byte 82 of 100"));
-    fails(&["--trace", "-", "--at", "95"], cut, 1, "at 82, the record at byte 92 is broken");
+    fails(&["--trace", "-", "--at", "95"], cut, 1, "at 92, the record at byte 92 is broken");
     let saved = own_file("broken.words", b"");
     broken(&["--trace", "-", "--save", &saved], cut, told);
     assert_eq!(printed(dump(&[&saved], b"")), table(&whole));
@@ -172,6 +172,54 @@ fn output_and_files_that_cannot_be_written() {
     let nowhere = root().join("nowhere/saved");
     fails(&["--trace", &incident(), "--save", nowhere.to_str().unwrap()], b"", 1, "No such file");
     fails(&["--trace", &incident(), "--save", root().to_str().unwrap()], b"", 1, "directory");
+}
+
+/// A file beside the saved one stays, and a link is followed.
+#[test]
+fn saving_touches_nothing_else() {
+    let beside = own_file("beside.words.part", b"mine");
+    let saved = own_file("beside.words", b"before");
+    printed(dump(&["--trace", &incident(), "--save", &saved], b""));
+    assert_eq!(fs::read(&beside).unwrap(), b"mine");
+    assert_eq!(fs::read(&saved).unwrap().len(), 4 * TABLE_WORDS);
+
+    let target = own_file("target.words", b"before");
+    let link = own_file("link.words", b"");
+    fs::remove_file(&link).unwrap();
+    std::os::unix::fs::symlink(&target, &link).unwrap();
+    printed(dump(&["--trace", &incident(), "--save", &link], b""));
+    assert!(fs::symlink_metadata(&link).unwrap().is_symlink());
+    assert_eq!(fs::read(&target).unwrap().len(), 4 * TABLE_WORDS);
+}
+
+#[test]
+fn endless_files() {
+    for arguments in [&["/dev/zero"][..], &["--text", "/dev/zero"]] {
+        fails(arguments, b"", 1, "/dev/zero: it has more than 67108864 bytes");
+    }
+    fails(&["--trace", "/dev/zero"], b"", 1, "too long");
+}
+
+/// The script of the repository, with another library than its own.
+fn script(library: &str, command: &str) -> Output {
+    let mut shell = Command::new("bash");
+    shell.args(["-c", command]).env("MAKVLURIA_LIB", library).current_dir(root());
+    run(&mut shell, b"")
+}
+
+#[test]
+fn the_script_tells_its_failures() {
+    for (library, told) in [
+        ("target/staticlib", "MAKVLURIA_LIB has to be an absolute path, and is target/staticlib"),
+        ("/nowhere", "MAKVLURIA_LIB names /nowhere, where no libhost.a is"),
+    ] {
+        let output = script(library, "./dump --trace examples/incident.trace");
+        assert_eq!((output.status.code(), output.stdout), (Some(1), vec![]));
+        one_line(&output.stderr, told);
+    }
+    let output = script("/nowhere", "./dump --trace examples/incident.trace >&-");
+    assert_eq!(output.status.code(), Some(1));
+    one_line(&output.stderr, "standard output is closed");
 }
 
 #[test]

@@ -69,11 +69,11 @@ fn words_where_only_zeros_may_be() {
     has(
         &text,
         &[
-            "process 2 on the board",
+            "process 2, which the board does not have",
             "15          S, RAM starts             0x00000000",
             "16          E, RAM ends               0x00000005  ! only 0 may stand here",
-            "68..73      driver 2                  number 0x6 subscribe 1 read-write 0 read-only 0 shared 0  !",
-            "            only 0 may stand here",
+            "68..73      driver 2                  number 0x6 subscribe 1 read-write 0 read-only 0 shared 0",
+            "            ! only 0 may stand here",
             "142..144    driver 2 (none on the board)  owner process 6 (word 7), which the board does not have,",
             "            latch 0  ! only 0 may stand here",
             "177..179    subscribe slot 2 of driver 0  0x00000000, 8  ! only 0 may stand here",
@@ -81,11 +81,42 @@ fn words_where_only_zeros_may_be() {
             "437..439    read-only slot 0 of driver 1  0x00000009, 0  ! only 0 may stand here",
             "557..559    upcall 0                  driver 0 (0x1), slot 0",
             "559..564      arguments 0, 10, 0      pointer 0x00000000 (null), data 0  ! only 0 may stand here",
-            "process 2, which the board does not have",
             "1170        queued upcalls            11  ! only 0 may stand here",
         ],
     );
     assert!(text.starts_with("not well formed: word 16 (process 2, E) = 5: the row is not in use"));
+}
+
+/// What the board's words do not say is not said.
+#[test]
+fn a_table_that_ends_within_its_board() {
+    let (_, words) = reached_tables().into_iter().find(|(name, _)| *name == "worked").unwrap();
+    let permissions = |length: usize, line: &str| has(&dump(&words[..length]), &[line]);
+    permissions(57, "7           permissions               0x3");
+    permissions(58, "7           permissions               0x3, driver 0, driver 1");
+    permissions(59, "7           permissions               0x3, driver 0 (0x1), driver 1");
+    permissions(
+        64,
+        "7           permissions               0x3, driver 0 (0x1), driver 1 (0x90000)",
+    );
+}
+
+/// Only 1 may say that a driver is shared; its claim is told by any number but 0.
+#[test]
+fn a_driver_that_is_shared_otherwise() {
+    let text = changed("worked", &[(67, 2)]);
+    let claim =
+        "140..142    driver 1 (0x90000)        owner process 1 (word 2), latch -1 (0xFFFFFFFF)";
+    has(&text, &[claim]);
+    assert!(text.starts_with("not well formed: word 67 (driver 1, shared) = 2"));
+}
+
+/// Places of twelve letters and more have a space behind them.
+#[test]
+fn places_that_fill_their_columns() {
+    let (_, mut words) = reached_tables().swap_remove(0);
+    words.resize(104_162, 0);
+    has(&dump(&words), &["4162..104162 100000 words past the end, all 0"]);
 }
 
 #[test]

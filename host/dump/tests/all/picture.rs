@@ -79,11 +79,35 @@ fn an_area_of_two_bytes() {
 #[test]
 fn a_break_within_a_column() {
     let area = Area::new(0, 640);
-    let drawn = &rows(ram(area, [11, 20], vec![bar(0..11)]))[..];
-    assert_eq!(drawn[0], format!("  |=={}|", "#".repeat(COLUMNS - 2)));
+    let drawn = &rows(ram(area, [11, 30], vec![bar(0..11)]))[..];
+    assert_eq!(drawn[0], format!("  |==.{}|", "#".repeat(COLUMNS - 3)));
     assert_eq!(drawn[2], format!("  |**{}|  buffer", " ".repeat(COLUMNS - 2)));
     let drawn = &rows(ram(area, [10, 21], vec![]))[..];
     assert_eq!(drawn[0], format!("  |=..{}|", "#".repeat(COLUMNS - 3)));
+}
+
+/// What has a byte has a column, and what has none has none: ten bytes a column, by hand.
+#[test]
+fn small_parts_are_drawn() {
+    let drawn =
+        |app_break, grant| rows(ram(Area::new(0, 640), [app_break, grant], vec![])).swap_remove(0);
+    let bar = |below: usize, free: usize| {
+        let granted = COLUMNS - below - free;
+        format!("  |{}{}{}|", "=".repeat(below), ".".repeat(free), "#".repeat(granted))
+    };
+    // A free part, and a grant region, of less than a column.
+    assert_eq!(drawn(11, 20), bar(2, 1));
+    assert_eq!(drawn(639, 639), bar(63, 0));
+    assert_eq!(drawn(631, 639), bar(62, 1));
+    assert_eq!(drawn(638, 639), bar(62, 1));
+    // All three at the start.
+    assert_eq!(drawn(1, 2), bar(1, 1));
+    assert_eq!(drawn(0, 1), bar(0, 1));
+    // None of it, and all of it.
+    assert_eq!(drawn(0, 0), bar(0, 0));
+    assert_eq!(drawn(0, 640), bar(0, 64));
+    assert_eq!(drawn(640, 640), bar(64, 0));
+    assert_eq!(drawn(639, 640), bar(63, 1));
 }
 
 #[test]

@@ -23,7 +23,7 @@ fn see(what: &str, words: &[u32]) -> String {
     let first = text.lines().next().unwrap();
     assert_eq!(first == "well formed", proved, "{what}: {first}");
     assert_eq!(first.starts_with("not well formed: word "), !proved, "{what}: {first}");
-    let own_rule = text.contains("by this tool's own rule");
+    let own_rule = text.contains("by the second program's rule");
     assert_eq!(own_rule, !proved, "{what}");
     for line in text.lines().skip(1) {
         assert!(line.is_ascii() && line.len() <= PAGE && line.trim_end() == line, "{what}: {line}");

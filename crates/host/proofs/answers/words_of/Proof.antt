@@ -1,17 +1,17 @@
 -- Each variant has the words of its own answer. Each arm is a fact of its own, so that each wrong one is told.
 use borrow.Author.Needs.{needs}
-use Rattle.host.proofs.WordLaws.{words-told}
+use Rattle.host.proofs.WordLaws.{answer-told}
 use Rattle.host.proofs.answers.words_of.Statement.{statement}
 use Rattle.host.proofs.answers.words_of.Tie as tie
 
 returns : tie.Need-returns
-returns c = words-told (c .before .answer .given .1)
+returns c = answer-told (c .before .answer .given .1)
 
 returns-2 : tie.Need-returns-2
-returns-2 c = words-told (c .before .answer2 .given .1)
+returns-2 c = answer-told (c .before .answer2 .given .1)
 
 returns-3 : tie.Need-returns-3
-returns-3 c = words-told (c .before .answer3 .given .1)
+returns-3 c = answer-told (c .before .answer3 .given .1)
 
 returns-4 : tie.Need-returns-4
 returns-4 c = search needs
@@ -32,10 +32,10 @@ returns-9 : tie.Need-returns-9
 returns-9 c = search needs
 
 returns-10 : tie.Need-returns-10
-returns-10 c = words-told (c .before .answer4 .given .1)
+returns-10 c = answer-told (c .before .answer4 .given .1)
 
 returns-11 : tie.Need-returns-11
-returns-11 c = words-told (c .before .answer5 .given .1)
+returns-11 c = answer-told (c .before .answer5 .given .1)
 
 pub words-of-spec : {M : Type 1} → statement M
 words-of-spec =

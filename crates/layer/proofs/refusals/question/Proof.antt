@@ -1,7 +1,6 @@
 -- The rows are tested in their order: the process's first, then those of the slot, and last whether slots of the kind hold buffers.
 use native.Mathlib.Omega.{arith}
 use borrow.Author.Needs.{needs}
-use Rattle.layer.proofs.RefusalLaws.{slot-of}
 use Rattle.layer.proofs.QuestionLaws.{no-process, named-refused, left-for}
 use Rattle.layer.proofs.refusals.question.Statement.{statement}
 use Rattle.layer.proofs.refusals.question.Tie as tie
@@ -29,14 +28,14 @@ returns-4 c =
     let e = c .before .before in
     let n = e .before in
     let s = n .before .before .before .before .before in
-    (left-for (s .args .table .now) _ _ _ (n .before .if1 .left) _ _ _ (c .enum-told2 .given .1) (n .named .ensures .0) (e .if2 .left), λ _. slot-of (n .before .if1 .left) (n .named .ensures .1 (e .if2 .left)))
+    (left-for (s .args .table .now) _ _ _ (n .before .if1 .left) _ _ _ (c .enum-told2 .given .1) (n .named .ensures .0) (e .if2 .left), λ _. record { known = n .before .if1 .left; within = n .named .ensures .1 (e .if2 .left) })
 
 returns-5 : tie.Need-returns-5
 returns-5 c =
     let e = c .before .before in
     let n = e .before in
     let s = n .before .before .before .before .before in
-    (left-for (s .args .table .now) _ _ _ (n .before .if1 .left) _ _ _ (c .enum-told3 .given .1) (n .named .ensures .0) (e .if2 .left), λ _. slot-of (n .before .if1 .left) (n .named .ensures .1 (e .if2 .left)))
+    (left-for (s .args .table .now) _ _ _ (n .before .if1 .left) _ _ _ (c .enum-told3 .given .1) (n .named .ensures .0) (e .if2 .left), λ _. record { known = n .before .if1 .left; within = n .named .ensures .1 (e .if2 .left) })
 
 pub question-spec : {M : Type 1} → statement M
 question-spec =
