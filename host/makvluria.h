@@ -112,7 +112,7 @@ typedef enum {
   TOCK_SYSCALL_SUCCESS_U32_U32_U32 = 132
 } syscall_rtype_t;
 
-/* r1 of a Failure, by libtock-c's names. */
+/* r1 of a Failure, by libtock-c's names. NODEVICE: the driver is not installed, or denied to the process; no call tells which. */
 typedef enum {
   TOCK_STATUSCODE_SUCCESS = 0,
   TOCK_STATUSCODE_FAIL = 1,

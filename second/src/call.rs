@@ -91,7 +91,7 @@ impl Machine {
     }
 
     fn command(&mut self, process: ProcessIndex, [driver, number, ..]: Registers) -> ReturnVariant {
-        let Ok(driver) = reach(&self.board, self.process_board(process), DriverNumber(driver))
+        let Some(driver) = reach(&self.board, self.process_board(process), DriverNumber(driver))
         else {
             return Failure(NoDevice);
         };
@@ -125,35 +125,18 @@ impl Machine {
     }
 }
 
-/// Why a call does not reach a driver.
-enum Unreached {
-    Denied,
-    NotInstalled,
-}
-
-/// The driver that a process calls.
+/// The driver that a process calls, where it is to be had. A driver that is
+/// denied is as one that is not installed: no class tells them apart.
 #[inline(always)]
-fn reach(
-    board: &Board,
-    process: &ProcessBoard,
-    number: DriverNumber,
-) -> Result<DriverPlace, Unreached> {
-    let driver = board.find_driver(number).ok_or(Unreached::NotInstalled)?;
-    if process.permits(driver) {
-        Ok(driver)
-    } else {
-        Err(Unreached::Denied)
-    }
+fn reach(board: &Board, process: &ProcessBoard, number: DriverNumber) -> Option<DriverPlace> {
+    board.find_driver(number).filter(|&driver| process.permits(driver))
 }
 
-impl Unreached {
-    /// The answer to a subscribe or an allow.
-    fn answer(self, kind: SlotKind, [first, second]: Pair) -> ReturnVariant {
-        match (self, kind) {
-            (Unreached::Denied, _) => Failure(NoDevice),
-            (Unreached::NotInstalled, SlotKind::Subscribe) => FailureWith2U32(NoDevice, 0, 0),
-            (Unreached::NotInstalled, _) => FailureWith2U32(NoDevice, first, second),
-        }
+/// The answer to a subscribe or an allow that reaches no driver.
+fn unreached(kind: SlotKind, [first, second]: Pair) -> ReturnVariant {
+    match kind {
+        SlotKind::Subscribe => FailureWith2U32(NoDevice, 0, 0),
+        SlotKind::ReadWrite | SlotKind::ReadOnly => FailureWith2U32(NoDevice, first, second),
     }
 }
 
@@ -167,9 +150,8 @@ impl Process {
         kind: SlotKind,
         [driver, number, first, second]: Registers,
     ) -> ReturnVariant {
-        let driver = match reach(board, &self.board, DriverNumber(driver)) {
-            Ok(driver) => driver,
-            Err(unreached) => return unreached.answer(kind, [first, second]),
+        let Some(driver) = reach(board, &self.board, DriverNumber(driver)) else {
+            return unreached(kind, [first, second]);
         };
         if number >= board.drivers()[driver.0].slots(kind) {
             return FailureWith2U32(NoSupport, first, second);

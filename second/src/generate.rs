@@ -6,6 +6,7 @@ pub mod boundary;
 pub mod broken;
 pub mod calls;
 pub mod corpus;
+pub mod hidden;
 pub mod long;
 pub mod script;
 pub mod spoil;

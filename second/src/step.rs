@@ -18,6 +18,20 @@ pub enum Step<'a> {
     Latch { driver: DriverNumber, peak: i32 },
 }
 
+impl Step<'_> {
+    /// The process that the step names. A latch names none.
+    pub fn process(&self) -> Option<ProcessIndex> {
+        match *self {
+            Step::Call { process, .. }
+            | Step::Event { process, .. }
+            | Step::Resume { process }
+            | Step::Deposit { process, .. }
+            | Step::Fetch { process, .. } => Some(process),
+            Step::Latch { .. } => None,
+        }
+    }
+}
+
 /// Refusals by number. 1 and 2 (a lent image or table that is not right) have
 /// no place here: this program lends nothing.
 #[derive(Clone, Copy, Debug, PartialEq, Eq)]

@@ -274,3 +274,15 @@ pub fn write_trace(words: &[u32], steps: &[Step]) -> Vec<u8> {
     }
     trace
 }
+
+/// The board's words and the steps of a whole trace. Steps after a board that
+/// is not good are read too.
+pub fn read_trace(trace: &[u8]) -> Result<(Vec<u32>, Vec<Step<'_>>), Broken> {
+    let mut reader = Reader::new(trace);
+    let words = reader.board()?;
+    let mut steps = Vec::new();
+    while let Some(step) = reader.step()? {
+        steps.push(step);
+    }
+    Ok((words, steps))
+}

@@ -12,7 +12,7 @@ use borrow.Author.Tests.{eqb-true, eq-eqb}
 use Rattle.definition.specs.Limits.{areasWords, driverWords}
 use Rattle.definition.specs.Board.{Board, noAreas, noDriver, goodBoard}
 use Rattle.definition.specs.Words.{part, tabulate, grid}
-use Rattle.definition.specs.Image.{wordsOfAreas, readAreas, wordsOfDriver, readDriver, areasFrom, countAt, boardWords, boardAt, boardOf, goodBoardWords}
+use Rattle.definition.specs.Image.{wordsOfAreas, readAreas, wordsOfDriver, readDriver, areasFrom, countAt, boardWords, lentBoard, boardAt, boardOf, goodBoardWords}
 use Rattle.laws.specs.Facts.{both, and}
 use Rattle.laws.specs.Rows.{tab-length, tab-read, part-at, part-all, part-skip, wordsAt, words-part, grid-length, grid-row}
 use Rattle.laws.specs.Codec.{first-of, areas-back, driver-back, areas-words, driver-words}
@@ -109,9 +109,6 @@ module _ (t : List ℕ) (m n : ℕ) (fits : countAt m + 1 + n * driverWords ≤ 
 
 -- ---- a board as it is lent: room for just its own rows
 
-abbrev pub lentBoard : Board → List ℕ
-lentBoard b = boardWords (length (b .processes)) (length (b .drivers)) b
-
 pub board-fits : (words : List ℕ) → goodBoardWords words ≡ true → (length words ≡ countAt (getD words 0 0) + 1 + getD words (countAt (getD words 0 0)) 0 * driverWords) × (goodBoard (boardOf words) ≡ true)
 unfolding goodBoardWords
 board-fits words e =
@@ -139,11 +136,11 @@ module _ (b : Board) where
   alone : lentBoard b ≡ lentBoard b ++ []
   alone = sym (append-nil (lentBoard b))
 
-  lent-back : boardOf (lentBoard b) ≡ b
+  pub lent-back : boardOf (lentBoard b) ≡ b
   unfolding boardOf P D
   lent-back = ap (λ (i : ℕ). boardAt (lentBoard b) (countAt i)) (processes-count P D b (lentBoard b) [] alone) ∙ board-back P D b (lentBoard b) [] alone (omega arith) (omega arith)
 
-  board-words-good : goodBoard b ≡ true → goodBoardWords (lentBoard b) ≡ true
+  pub board-words-good : goodBoard b ≡ true → goodBoardWords (lentBoard b) ≡ true
   unfolding goodBoardWords P D
   board-words-good g =
       let fits : length (lentBoard b) ≡ 2 + areasWords * P + driverWords * D = omega (arith, board-length P D b) in

@@ -72,7 +72,7 @@ store-other a b x m pa pb (behind p) (inside i j) =
     part-before (a .ramStart - memoryBase) (a .ramEnd - a .ramStart) m (x .address - memoryBase) (x .bytes) (omega arith)
 
 -- the write, as a store to the process's own RAM
-pub storeRam : Areas → Write → List ℕ → List ℕ
+unfoldable pub storeRam : Areas → Write → List ℕ → List ℕ
 storeRam a x ram = sets ram (x .address - a .ramStart) (x .bytes)
 
 pub store-own : (a : Areas) (x : Write) (m : List ℕ) → Placed a → Inside a x → ramOf a (store x m) ≡ storeRam a x (ramOf a m)

@@ -7,13 +7,14 @@ use lib.ListN.{length}
 use lib.Dec.{ltb, eqb}
 use borrow.Author.Tests.{leb-true, ltb-true, ltb-false, eqb-true, leb-false, lt-ltb, not-false}
 use Rattle.definition.specs.Tests.{if_then_else_, firstOf}
-use Rattle.definition.specs.Board.{Board, Kind, subscribe, readWrite, readOnly, placeOf, isShared, hasSlot}
+use Rattle.definition.specs.Board.{Board, Kind, subscribe, readWrite, readOnly, placeOf, installed, isShared, hasSlot, permits, reach}
 use Rattle.definition.specs.State.{Pair, Process}
 use Rattle.definition.specs.Answer.{Answer, changesNothing}
 use Rattle.definition.specs.Call.{exchange, command, Decoded, known, aside, decode, decodeYield, decodeMemop, decodeExit, classOf}
-use Rattle.definition.specs.Decide.{Action, call, event, resume, deposit, fetch, View, Outcome, answers, notInstalled, decideExchange, decideCommand, decideBreak, decideBreakBy, decideKnown, decideCall, decideAccepted, actionRows, refusal, refuse, decide}
+use Rattle.definition.specs.Decide.{Action, call, event, resume, deposit, fetch, View, areasOf, placeIn, Outcome, answers, reaching, notInstalled, decideExchangeAt, decideExchange, decideCommandAt, decideCommand, decideBreak, decideBreakBy, decideKnown, decideCall, decideAccepted, actionRows, refusal, refuse, decide}
 use Rattle.definition.specs.Runs.{sendsShared}
-use Rattle.laws.specs.Facts.{clash, and, each-holds, passed}
+use Rattle.laws.specs.Facts.{clash, both, and, each-holds, passed}
+use Rattle.laws.specs.Places.{reached-if}
 use Rattle.laws.specs.Why.{isPlain, Slot, ended, again, Because, Live, Why}
 
 -- ---- the walk
@@ -27,15 +28,15 @@ absent-plain subscribe x = refl
 absent-plain readWrite x = refl
 absent-plain readOnly x = refl
 
-nonzero : (n : ℕ) → eqb n 0 ≡ false → ltb 0 n ≡ true
+pub nonzero : (n : ℕ) → eqb n 0 ≡ false → ltb 0 n ≡ true
 nonzero zero e = clash refl e
 nonzero (suc n) e = lt-ltb 0 (suc n) (omega arith)
 
 -- the driver and the slot that a step names
-slot-of : (kind : Kind) (b : Board) (driver j : ℕ) → not (ltb (placeOf (b .drivers) driver) (length (b .drivers))) ≡ false → not (hasSlot kind b (placeOf (b .drivers) driver) j) ≡ false
+pub slot-of : (kind : Kind) (b : Board) (driver j : ℕ) → installed b (placeOf (b .drivers) driver) ≡ true → hasSlot kind b (placeOf (b .drivers) driver) j ≡ true
     → Slot b kind driver (placeOf (b .drivers) driver) j
 unfolding hasSlot
-slot-of kind b driver j i s = record { place = refl; installed = ltb-true _ _ (not-false _ i); exists = ltb-true _ _ (not-false _ s) }
+slot-of kind b driver j i s = record { place = refl; installed = ltb-true _ _ i; exists = ltb-true _ _ s }
 
 module _ (v : View) (process : Process) (a : Action) (live : Live v process) where
   choose : {x y : Outcome} (t : Bool) → (t ≡ true → Why v process a x) → (t ≡ false → Why v process a y) → Why v process a (if t then x else y)
@@ -43,20 +44,24 @@ module _ (v : View) (process : Process) (a : Action) (live : Live v process) whe
   choose true f g = f refl
   choose false f g = g refl
 
+  -- a call that names a driver: what is decided at its place, if the process may call it, has a reason, and so has the answer where there is none
+  reach-why : (driver : ℕ) (x : Answer) (f : ℕ → Outcome) → isPlain x ≡ true
+      → (installed (v .board) (placeIn v driver) ≡ true → permits (areasOf v) (placeIn v driver) ≡ true → Why v process a (f (placeIn v driver)))
+      → Why v process a (reaching (reach (v .board) (areasOf v) driver) x f)
+  reach-why driver x f e g = rw (reached-if (v .board) (areasOf v) driver x f) (choose _ (λ q. let (i, p) = both _ _ q in g i p) λ _. plain x e)
+
   exchange-why : (kind : Kind) (driver j : ℕ) (x : Pair) → a ≡ call (classOf kind) driver j (x .first) (x .second) → Why v process a (decideExchange kind v process driver j x)
-  unfolding decideExchange Because
-  exchange-why kind driver j x e =
-      choose _ (λ _. plain _ (absent-plain kind x)) λ i. choose _ (λ _. plain _ refl) λ p. choose _ (λ _. plain _ refl) λ s. choose _ (λ _. plain _ refl) λ f.
-      record { because = record { driver = driver; named = e; slot = slot-of kind (v .board) driver j i s; permitted = not-false _ p; fits = not-false _ f }; live = λ _. live }
+  unfolding decideExchange decideExchangeAt Because
+  exchange-why kind driver j x e = reach-why driver _ _ (absent-plain kind x) λ i p. choose _ (λ _. plain _ refl) λ s. choose _ (λ _. plain _ refl) λ f.
+      record { because = record { driver = driver; named = e; slot = slot-of kind (v .board) driver j i (not-false _ s); permitted = p; fits = not-false _ f }; live = λ _. live }
 
   command-why : (driver n x y : ℕ) → sendsShared (v .board) a ≡ (isShared (v .board) (placeOf (v .board .drivers) driver) && ltb 0 n) → Why v process a (decideCommand v driver n x y)
-  unfolding decideCommand Because
-  command-why driver n x y e =
-      choose _ (λ _. plain _ refl) λ i. choose _ (λ _. plain _ refl) λ p. choose _ (λ _. plain _ refl) λ z. choose _ (λ _. plain _ refl) λ s.
+  unfolding decideCommand decideCommandAt Because
+  command-why driver n x y e = reach-why driver _ _ refl λ i p. choose _ (λ _. plain _ refl) λ z. choose _ (λ _. plain _ refl) λ s.
       choose _ (λ _. record {
         because = record {
-          installed = ltb-true _ _ (not-false _ i);
-          permitted = not-false _ p;
+          installed = ltb-true _ _ i;
+          permitted = p;
           shared = not-false _ s;
           sent = e ∙ and (not-false (isShared (v .board) (placeOf (v .board .drivers) driver)) s) (nonzero n z);
         };
@@ -142,14 +147,14 @@ accepted-why v process a e =
         let (s, e2) = passed _ _ _ e1 in
         let (set, e3) = passed _ _ _ e2 in
         record {
-          because = record { driver = driver; named = refl; slot = slot-of subscribe (v .board) driver j i s; carries = refl; set = set; room = leb-false _ _ (passed _ _ _ e3 .0) };
+          because = record { driver = driver; named = refl; slot = slot-of subscribe (v .board) driver j (not-false _ i) (not-false _ s); carries = refl; set = set; room = leb-false _ _ (passed _ _ _ e3 .0) };
           live = λ _. live;
         }
     go resume live e = record { because = tt; live = λ _. live }
     go (deposit driver j offset bytes) live e =
         let (i, e1) = passed _ _ _ e in
         let (s, e2) = passed _ _ _ e1 in
-        let slot = slot-of readWrite (v .board) driver j i s in
+        let slot = slot-of readWrite (v .board) driver j (not-false _ i) (not-false _ s) in
         record {
           because = record {
             place = placeOf (v .board .drivers) driver;

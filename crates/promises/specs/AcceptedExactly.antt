@@ -11,18 +11,19 @@ use lib.Dec.{leb, ltb, eqb}
 use borrow.Author.Tests.{ltb-true, ltb-false, lt-leb}
 use Rattle.definition.specs.Tests.{if_then_else_}
 use Rattle.definition.specs.Limits.{bufferSlots}
-use Rattle.definition.specs.Board.{Kind, subscribe, readWrite, readOnly, driverAt, slotsOf, installed, isShared, hasSlot, permits}
+use Rattle.definition.specs.Board.{Kind, subscribe, readWrite, readOnly, driverAt, slotsOf, isShared, hasSlot, permits, reach}
 use Rattle.definition.specs.State.{Pair, Upcall, held, Claim}
-use Rattle.definition.specs.Answer.{Answer, waits, nothing, success, successWith1, successWith2, failure, RESERVE, NOSUPPORT, isAccepted}
+use Rattle.definition.specs.Answer.{Answer, waits, nothing, success, successWith1, successWith2, failure, RESERVE, NOSUPPORT, NODEVICE, isAccepted}
 use Rattle.definition.specs.Call.{Decoded, known, aside, exchange, command, bound, exitTerminate, exitRestart, decode, decodeYield, decodeMemop, decodeExit, classOf}
 use Rattle.definition.specs.Area.{breakClears}
-use Rattle.definition.specs.Decide.{Outcome, answers, notInstalled, decideExchange, decideCommand, decideBreak, decideBreakBy, boundOf, decideKnown, decideCall, decideAccepted, decide}
+use Rattle.definition.specs.Decide.{Outcome, reaching, notInstalled, decideExchangeAt, decideExchange, decideCommandAt, decideCommand, decideBreak, decideBreakBy, boundOf, decideKnown, decideCall, decideAccepted, decide}
 use Rattle.definition.specs.World.{World, deliver, owns, commandAnswer, answerOf, viewOf, perform, step}
 use Rattle.definition.specs.WellFormed.{goodState}
 use Rattle.laws.specs.Facts.{clash, either}
+use Rattle.laws.specs.Places.{reached-if}
 use Rattle.promises.specs.Accepted.{areasIn, processIn, claimIn, bufferIn, answerTo, IsRunning, Permitted, MayHold, Exchanges, Commands, SharedCommands, BreakMoves, MovedBy}
 use Rattle.promises.specs.Promises.{Acceptance}
-use Rattle.promises.specs.Told.{Tells, le-told, lt-told, eq-told, not-told, or-told, all-told, none-told, every-told, if-told, unless-told, if-holds, unless-holds}
+use Rattle.promises.specs.Told.{Tells, le-told, lt-told, eq-told, not-told, and-told, or-told, all-told, none-told, every-told, if-told, unless-told, if-holds, unless-holds}
 use Rattle.promises.specs.Conditions.{accepts-told, clears-told, running-told, answerBy, call-answer, placeTo, one-place, at-place, MayMove, moves-of, may-move, moved-up, moved-down}
 use Rattle.promises.specs.Decodes.{above, decode-bound, decode-command, decode-exchange, decode-yield, other-class, other-memop}
 
@@ -70,18 +71,17 @@ module _ (w : World) (good : goodState (w .state) ≡ true) (p : ℕ) (S : Answe
   call-told class r0 r1 r2 r3 d e g =
       if-told By _ _ _ (Iff·trans (eq-told _ 0) (running-told w p class r0 r1 r2 r3)) (rw e g) (fails S only _ refl)
 
-  -- installation and permission stand first
-  permitted-told : (driver : ℕ) (x y : Answer) (o : Outcome) (Q : ℕ → Type 0) → isAccepted x ≡ false → isAccepted y ≡ false → S (answerBy w p o) ↔ Q (placeTo w driver)
-      → S (answerBy w p (if not (installed (w .state .board) (placeTo w driver)) then answers x else if not (permits (areasIn w p) (placeTo w driver)) then answers y else o))
-      ↔ ((k : ℕ) × Permitted w p driver k × Q k)
+  -- that the driver is reached stands first
+  permitted-told : (driver : ℕ) (x : Answer) (f : ℕ → Outcome) (Q : ℕ → Type 0) → isAccepted x ≡ false → S (answerBy w p (f (placeTo w driver))) ↔ Q (placeTo w driver)
+      → S (answerBy w p (reaching (reach (w .state .board) (areasIn w p) driver) x f)) ↔ ((k : ℕ) × Permitted w p driver k × Q k)
   unfolding By permits answerOf
-  permitted-told driver x y o Q e f g =
-      Iff·trans (unless-told By _ _ _ (lt-told _ _) (fails S only x e) (unless-told By _ _ _ (eq-told _ 1) (fails S only y f) g)) (at-place w good p driver Q)
+  permitted-told driver x f Q e g = rw (reached-if (w .state .board) (areasIn w p) driver x f)
+      (Iff·trans (if-told By _ _ _ (and-told _ _ (lt-told _ _) (eq-told _ 1)) g (fails S only x e)) (at-place w good p driver Q))
 
   exchange-told : (kind : Kind) (driver j x y : ℕ) → S (successWith2 (held kind (processIn w p) (placeTo w driver) j))
       → S (answerTo w p (classOf kind) driver j x y) ↔ (Exchanges kind w p driver j x y)
-  unfolding By decideCall decideKnown decideExchange viewOf hasSlot answerOf
-  exchange-told kind driver j x y s = Iff·trans (call-told _ _ _ _ _ _ (decode-exchange kind driver j x y) (permitted-told driver _ _ _ fits (not-installed kind _) refl
+  unfolding By decideCall decideKnown decideExchange decideExchangeAt viewOf hasSlot answerOf
+  exchange-told kind driver j x y s = Iff·trans (call-told _ _ _ _ _ _ (decode-exchange kind driver j x y) (permitted-told driver _ _ fits (not-installed kind _)
       (unless-told By _ _ _ (lt-told _ _) (fails S only _ refl) (unless-holds By _ _ _ (accepts-told kind _ _ x y) (fails S only _ refl) s))))
       (λ h. record { caller = h .0; place = h .1 .0; permitted = h .1 .1; slot = h .1 .2 .0; value = h .1 .2 .1 }, λ e. (e .caller, (e .place, e .permitted, (e .slot, e .value))))
     where
@@ -90,15 +90,15 @@ module _ (w : World) (good : goodState (w .state) ≡ true) (p : ℕ) (S : Answe
 
   -- command 0
   exists-told : (driver x y : ℕ) → S success → S (answerTo w p 2 driver 0 x y) ↔ (Commands w p driver)
-  unfolding decode decideCall decideKnown decideCommand viewOf answerOf if_then_else_
-  exists-told driver x y s = Iff·trans (call-told 2 driver 0 x y _ refl (permitted-told driver _ _ _ (λ k. Unit {0}) refl refl (λ _. tt, λ _. s)))
+  unfolding decode decideCall decideKnown decideCommand decideCommandAt viewOf answerOf if_then_else_
+  exists-told driver x y s = Iff·trans (call-told 2 driver 0 x y _ refl (permitted-told driver _ _ (λ k. Unit {0}) refl (λ _. tt, λ _. s)))
       (λ h. record { caller = h .0; place = h .1 .0; permitted = h .1 .1 }, λ e. (e .caller, (e .place, e .permitted, tt)))
 
   -- commands 1 to 3
   shared-told : (driver number x y : ℕ) (Owner : ℕ → Type 0) → eqb number 0 ≡ false → leb number 3 ≡ true
       → S (commandAnswer p number (claimIn w (placeTo w driver))) ↔ Owner (claimIn w (placeTo w driver) .owner) → S (answerTo w p 2 driver number x y) ↔ (SharedCommands w p driver Owner)
-  unfolding By decode decideCall decideKnown decideCommand viewOf isShared answerOf if_then_else_
-  shared-told driver number x y Owner e f g = Iff·trans (call-told 2 driver number x y _ refl (permitted-told driver _ _ _ owned refl refl
+  unfolding By decode decideCall decideKnown decideCommand decideCommandAt viewOf isShared answerOf if_then_else_
+  shared-told driver number x y Owner e f g = Iff·trans (call-told 2 driver number x y _ refl (permitted-told driver _ _ owned refl
       (rw (e, f) (unless-told By _ _ _ (not-told _ (eq-told _ 0)) (fails S only _ refl) g))))
       (λ h. record { caller = h .0; place = h .1 .0; permitted = h .1 .1; shared = h .1 .2 .0; owner = h .1 .2 .1 }, λ e. (e .caller, (e .place, e .permitted, (e .shared, e .owner))))
     where
@@ -186,10 +186,10 @@ module _ (w : World) (p : ℕ) where
   none-aside class r0 r1 r2 r3 e = none-call class r0 r1 r2 r3 _ e refl
 
   none-command : (driver number x y : ℕ) → 3 < number → isAccepted (answerTo w p 2 driver number x y) ≡ false
-  unfolding NotAccepted decideCall decideKnown decideCommand answerOf
+  unfolding NotAccepted decideCall decideKnown decideCommand decideCommandAt viewOf answerOf
   none-command driver n x y h = none-call 2 driver n x y _ (decode-command driver n x y)
-      (either NotAccepted _ _ _ (λ _. refl) λ _. either NotAccepted _ _ _ (λ _. refl) λ _. either NotAccepted _ _ _ (λ e. clash e (above n 0 (omega arith))) λ _.
-      either NotAccepted _ _ _ (λ _. refl) λ _. either NotAccepted _ _ _ (λ e. clash e (lt-leb n 3 h)) λ _. refl)
+      (rw (reached-if (w .state .board) (areasIn w p) driver (failure NODEVICE) (decideCommandAt (viewOf w p) n x y)) (either NotAccepted _ _ _ (λ _. either NotAccepted _ _ _ (λ e. clash e (above n 0 (omega arith))) λ _.
+      either NotAccepted _ _ _ (λ _. refl) λ _. either NotAccepted _ _ _ (λ e. clash e (lt-leb n 3 h)) λ _. refl) λ _. refl))
 
   none-yield : (number address x y : ℕ) → isAccepted (answerTo w p 0 number address x y) ≡ false
   unfolding decodeYield decideCall decideKnown answerOf

@@ -106,12 +106,12 @@ unfolding goodState
 one-place w good {driver} {k} h = number-place (w .state .board) driver k (each-holds _ good .0) (h .installed) (h .number)
 
 pub at-place : (w : World) → goodState (w .state) ≡ true → (p driver : ℕ) (Q : ℕ → Type 0)
-    → ((placeTo w driver < length (w .state .board .drivers)) × ((areasIn w p .permissions / 2 ^ placeTo w driver % 2 ≡ 1) × Q (placeTo w driver)))
+    → (((placeTo w driver < length (w .state .board .drivers)) × (areasIn w p .permissions / 2 ^ placeTo w driver % 2 ≡ 1)) × Q (placeTo w driver))
     ↔ ((k : ℕ) × Permitted w p driver k × Q k)
 at-place w good p driver Q = (
-  λ h. (placeTo w driver, record { installed = h .0; number = place-number _ driver (h .0); bit = h .1 .0 }, h .1 .1),
+  λ h. (placeTo w driver, record { installed = h .0 .0; number = place-number _ driver (h .0 .0); bit = h .0 .1 }, h .1),
   λ h.
-      subst (λ k. (k < length (w .state .board .drivers)) × ((areasIn w p .permissions / 2 ^ k % 2 ≡ 1) × Q k)) (sym (one-place w good (h .1))) (h .1 .installed, (h .1 .bit, h .2)),
+      subst (λ k. ((k < length (w .state .board .drivers)) × (areasIn w p .permissions / 2 ^ k % 2 ≡ 1)) × Q k) (sym (one-place w good (h .1))) ((h .1 .installed, h .1 .bit), h .2),
 )
 
 -- BreakMoves without IsRunning

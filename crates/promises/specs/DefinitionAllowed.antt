@@ -12,7 +12,7 @@ use Rattle.definition.specs.Board.{areasAt, placeOf}
 use Rattle.definition.specs.State.{Process, State}
 use Rattle.definition.specs.Answer.{Answer, refused, started, fetched, changesNothing, numberOf}
 use Rattle.definition.specs.Call.{Decoded, known, aside, decode, yieldNoWait, yieldWait, exchange, command, breakTo, breakBy, bound, exitTerminate, exitRestart}
-use Rattle.definition.specs.Decide.{Action, call, event, resume, deposit, fetch, View, Outcome, answers, writes, decideExchange, decideCommand, decideBreak, decideBreakBy, decideKnown, decideCall, decideAccepted, refusal, decide}
+use Rattle.definition.specs.Decide.{Action, call, event, resume, deposit, fetch, View, Outcome, answers, writes, decideExchangeAt, decideExchange, decideCommandAt, decideCommand, decideBreak, decideBreakBy, decideKnown, decideCall, decideAccepted, refusal, decide}
 use Rattle.definition.specs.World.{noWrite, processAfter, claimsAfter, writeOf, World, Step, own, latch, Out, processAt, viewOf, store, perform, latchRefusal, latchStep, step}
 use Rattle.definition.specs.Image.{imageOf, stateOf, wellFormed}
 use Rattle.definition.specs.Table.{Lent, wrongImage, refuseStep, worldOf, lentOf, outOf, tableStep, start}
@@ -31,7 +31,7 @@ use Rattle.promises.specs.LayersKeep.{allowed-keeps}
 -- ---- what is decided of a call does not go by the flash image
 
 call-blind : (v : View) (f : List ℕ) (process : Process) (d : Decoded) → decideCall (record { self = v .self; board = v .board; ram = v .ram; flashImage = f }) process d ≡ decideCall v process d
-unfolding decideCall decideKnown decideExchange decideCommand decideBreak decideBreakBy
+unfolding decideCall decideKnown decideExchange decideExchangeAt decideCommand decideCommandAt decideBreak decideBreakBy
 call-blind v f process (known (yieldNoWait address)) = refl
 call-blind v f process (known yieldWait) = refl
 call-blind v f process (known (exchange kind driver j x)) = refl

@@ -33,7 +33,7 @@ pub record Started (words : List ℕ) (x : Lent) : Type 0 where
   pub leaves : start words x .after ≡ lentOf (begun words x)
 
 -- a refusal is no accepted start
-refused-not-started : {A : Type 0} (n : ℕ) → refused n ≡ started → A
+pub refused-not-started : {A : Type 0} (n : ℕ) → refused n ≡ started → A
 refused-not-started n e = never (cc)
 
 pub accepted-start : (words : List ℕ) (x : Lent) → start words x .answer ≡ started → Started words x
@@ -100,10 +100,10 @@ isolation words x e a h l quiet =
         let board = begun-board words x s in
         let here : a < length (w .state .board .processes) = subst (λ r. a < length (r .processes)) (sym board) h in
         let silent : (m : List Step) → sendsNone b a m ≡ true → sendsNone (w .state .board) a m ≡ true = λ m q. subst (λ r. sendsNone r a m ≡ true) (sym board) q in
-        let one = lonely a l w w g g here (silent l quiet) (same-refl a w) in
-        let two = lonely a kept w w g g here (silent kept (quiet-those b a _ l quiet)) (same-refl a w) in
+        let one = lonely (isOwn a) a (λ s q. q) l w w g g here (silent l quiet) (same-refl a w) in
+        let two = lonely (isOwn a) a (λ s q. q) kept w w g g here (silent kept (quiet-those b a _ l quiet)) (same-refl a w) in
         let same-own : ownSteps a kept ≡ ownSteps a l = those-those (isOwn a) _ (λ s q. or-left (isOwn a s) (isNobodys b s) q) l in
-        let two′ = subst (λ m. Lonely a kept m w w) same-own two in
+        let two′ = subst (λ m. Lonely (isOwn a) a kept m w w) same-own two in
         record {
           alone = alike b a l (ownSteps a l) w g board (one .answers) (one .after);
           own = table-answers (isOwn a) l w g ∙ one .answers ∙ own-answers a l w ∙ sym (table-answers (λ _. true) (ownSteps a l) w g);

@@ -96,11 +96,11 @@ module _ (a : ℕ) (w : World) (g : Good (w .state)) (h : a < length (w .state .
 
 -- ---- its own step, as a function of what it sees
 
-nextView : View → Write → View
+unfoldable pub nextView : View → Write → View
 nextView v x = record { self = v .self; board = v .board; ram = storeRam (areasOf v) x (v .ram); flashImage = v .flashImage }
 
 module _ (a : ℕ) (x : Action) (w : World) (g : Good (w .state)) (h : a < length (w .state .board .processes)) where
-  own-view : viewOf (step (own a x) w .after) a ≡ nextView (viewOf w a) (writeOf (areasAt (w .state .board) a) (processAt (w .state) a) (decided a x w))
+  pub own-view : viewOf (step (own a x) w .after) a ≡ nextView (viewOf w a) (writeOf (areasAt (w .state .board) a) (processAt (w .state) a) (decided a x w))
   unfolding step perform viewOf nextView
   own-view = ap (λ ram. record { self = a; board = w .state .board; ram = ram; flashImage = w .flash })
       (store-own (areasAt (w .state .board) a) _ (w .memory) (placed (w .state .board) (g .board) a h) (written-inside a w g h a x))
@@ -109,7 +109,7 @@ module _ (a : ℕ) (x : Action) (w : World) (g : Good (w .state)) (h : a < lengt
   unfolding step perform
   own-process = getD-set-same (w .state .processes) a _ noProcess (omega (arith, g .count))
 
-  own-size : length (step (own a x) w .after .memory) ≡ length (w .memory)
+  pub own-size : length (step (own a x) w .after .memory) ≡ length (w .memory)
   unfolding step perform
   own-size = length-store _ (w .memory)
 

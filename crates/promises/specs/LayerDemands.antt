@@ -1,4 +1,4 @@
--- Demands 2 and 3 of the layer: a list of its calls is the definition's run, of which both hold.
+-- Demands 2 and 3 of the layer, and that it hides a denied driver: a list of its calls is the definition's run, of which they hold.
 use Prim.Native.Nat.{ℕ}
 use mathlib.Core.Path.{_≡_, refl, sym, ap, ap₂, _∙_, subst}
 use mathlib.Core.Bool.{Bool, true}
@@ -7,9 +7,10 @@ use Rattle.definition.specs.Tests.{if_then_else_}
 use Rattle.definition.specs.Answer.{Answer, started, fetched, changesNothing}
 use Rattle.definition.specs.Decide.{Action, fetch}
 use Rattle.definition.specs.World.{Step, own, Out}
-use Rattle.definition.specs.Runs.{isOwn, run, answersTo, allAnswers}
+use Rattle.definition.specs.Runs.{isOwn, isHeard, run, answersTo, allAnswers}
 use Rattle.definition.specs.Image.{boardOf}
 use Rattle.definition.specs.Table.{Lent, tableStep, start}
+use Rattle.definition.specs.Without.{wordsWithout}
 use Rattle.laws.specs.Unchanged.{unchanged}
 use Rattle.layer.specs.Steps.{lent, gave, Starts}
 use Rattle.layer.specs.StatementLaws.{fetch-whole}
@@ -18,7 +19,8 @@ use Rattle.promises.specs.History.{Heard, heard, historyOf}
 use Rattle.promises.specs.Promises.{after, answersOf, history, nextOf, Isolated, Accounted}
 use Rattle.promises.specs.Demand3.{isolation}
 use Rattle.promises.specs.Demand2.{accounting}
-use Rattle.promises.specs.LayerPromises.{answersFor, historyFor, LayerAccounting, LayerIsolation}
+use Rattle.promises.specs.Hidden.{hidden}
+use Rattle.promises.specs.LayerPromises.{answersFor, historyFor, LayerAccounting, LayerIsolation, LayerHiding}
 
 -- ---- a call is the definition's step
 
@@ -75,22 +77,25 @@ layer-runs (next {s} {l} {r} {answers} {x} {y} {z} c ran) =
 
 -- ---- what holds of the definition's run holds of them
 
--- an accepted call of start
-began : (words t m f t′ : List ℕ) → Starts words t started t′ → (start words (lent t m f) .answer ≡ started) × (start words (lent t m f) .after ≡ lent t′ m f)
-began words t m f t′ begun = (ap (λ (o : Out Lent). o .answer) (begun m f), ap (λ (o : Out Lent). o .after) (begun m f))
+-- a call of start
+began : (words t m f t′ : List ℕ) (r : Answer) → Starts words t r t′ → (start words (lent t m f) .answer ≡ r) × (start words (lent t m f) .after ≡ lent t′ m f)
+began words t m f t′ r begun = (ap (λ (o : Out Lent). o .answer) (begun m f), ap (λ (o : Out Lent). o .after) (begun m f))
+
+-- the answers to some steps of a list of calls
+picked-so : {l : List Step} {x : Lent} {answers : List Answer} {y : Lent} (f : Step → Bool) → Ran l x answers y → answersFor f l answers ≡ answersTo tableStep f l x
+picked-so {l} {x} f ran = ap (answersFor f l) (layer-runs ran .given) ∙ picked f l x
 
 pub layer-isolation : LayerIsolation
 layer-isolation words t m f t′ begun a h l none answers y ran =
-    let (e, here) = began words t m f t′ begun in
+    let (e, here) = began words t m f t′ _ begun in
     let x : Lent = lent t′ m f in
     let i = subst (λ z. Isolated (boardOf words) a l z (answersOf a l z) (after l z)) here (isolation words (lent t m f) e a h l none) in
     let r = layer-runs ran in
-    let mine : answersFor (isOwn a) l answers ≡ answersOf a l x = ap (answersFor (isOwn a) l) (r .given) ∙ picked (isOwn a) l x in
-    subst (λ given. Isolated (boardOf words) a l x given y) (sym mine) (subst (Isolated (boardOf words) a l x (answersOf a l x)) (sym (r .left)) i)
+    subst (λ given. Isolated (boardOf words) a l x given y) (sym (picked-so (isOwn a) ran)) (subst (Isolated (boardOf words) a l x (answersOf a l x)) (sym (r .left)) i)
 
 pub layer-accounting : LayerAccounting
 layer-accounting words t m f t′ begun a h l answers y ran said calls =
-    let (e, here) = began words t m f t′ begun in
+    let (e, here) = began words t m f t′ _ begun in
     let x : Lent = lent t′ m f in
     let i = subst (λ z. Accounted (boardOf words) a z (history a l z) (after l z) (nextOf a l z)) here (accounting words (lent t m f) e a h l) in
     let r = layer-runs ran in
@@ -98,3 +103,12 @@ layer-accounting words t m f t′ begun a h l answers y ran said calls =
     let answered : (action : Action) → said action ≡ nextOf a l x action = λ action. sym (ap (λ (o : Out Lent). o .answer) (call-is (calls action .1))) ∙ ap (λ z. tableStep (own a action) z .answer) (r .left) in
     subst (λ hs. Accounted (boardOf words) a x hs y said) (sym told) (subst (λ z. Accounted (boardOf words) a x (history a l x) z said) (sym (r .left))
     (subst (Accounted (boardOf words) a x (history a l x) (after l x)) (sym (λ i action. answered action i)) i))
+
+pub layer-hiding : LayerHiding
+layer-hiding words t m f t′ begun a ha k hk denied l l′ same quiet first u begun′ answers answers′ y y′ ran ran′ =
+    let (e, here) = began words t m f t′ _ begun in
+    let (e′, here′) = began (wordsWithout k words) t m f u first begun′ in
+    let h = hidden words (lent t m f) e a ha k hk denied l l′ same quiet in
+    let told = picked-so (isHeard a) ran ∙ ap (answersTo tableStep (isHeard a) l) (sym here) in
+    let told′ = picked-so (isHeard a) ran′ ∙ ap (answersTo tableStep (isHeard a) l′) (sym here′) in
+    record { starts = sym e′ ∙ h .starts; alike = told ∙ h .alike ∙ sym told′; alone = told′ ∙ h .alone }

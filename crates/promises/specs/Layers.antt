@@ -1,11 +1,11 @@
--- A layer, whoever wrote it, and what is asked of it: the three demands as propositions. `Wrong` has layers that break them (docs/PROMISES.md).
+-- A layer, whoever wrote it, and what is asked of it: the three demands, and that it hides a denied driver, as propositions. `Wrong` has layers that break them (docs/PROMISES.md).
 use mathlib.Core.Path.{_≡_}
 use mathlib.Core.List.{List}
 use Prim.Native.Nat.{ℕ}
 use Rattle.definition.specs.World.{Step, Out}
 use Rattle.definition.specs.Table.{Lent, tableStep, start}
 use Rattle.bridge.specs.Calls.{Called}
-use Rattle.promises.specs.Promises.{Isolates, Accounts}
+use Rattle.promises.specs.Promises.{Isolates, Hides, Accounts}
 use Rattle.promises.specs.LayerPromises.{Begun}
 
 -- a start and a step: from a board's words or a step, and what is lent, to an answer and what is lent
@@ -32,16 +32,23 @@ Demand2 layer = Accounts (layer .step)
 abbrev pub Demand3 : Layer → Type 0
 Demand3 layer = Isolates (layer .step)
 
--- all three; and none of them
+-- request 3: after the definition's accepted starts on a board and on the board without a driver that is denied to a process, the layer's runs on both, beside
+-- the definition's run over the process's own steps
+abbrev pub HidesDenied : Layer → Type 0
+HidesDenied layer = Hides (layer .step)
+
+-- all of them; and none
 pub record Keeps (layer : Layer) : Type 0 where
   pub demand1 : Demand1 layer
   pub demand2 : Demand2 layer
   pub demand3 : Demand3 layer
+  pub hides : HidesDenied layer
 
 pub record Breaks (layer : Layer) : Type 0 where
   pub demand1 : ¬ Demand1 layer
   pub demand2 : ¬ Demand2 layer
   pub demand3 : ¬ Demand3 layer
+  pub hides : ¬ HidesDenied layer
 
 -- each of its values is one that the contracts of the public functions allow
 pub record Allowed (layer : Layer) : Type 0 where

@@ -18,6 +18,14 @@ pub mod Guarded
 pub mod Isolation
 pub mod IsolatedRuns
 pub mod Demand3
+-- ---- a denied driver is as one that is not there
+pub mod TakenOut
+pub mod BoardWithout
+pub mod Beside
+pub mod Matched
+pub mod DecidedAlike
+pub mod HiddenSteps
+pub mod Hidden
 -- ---- demand 2
 pub mod SlotsTold
 pub mod QueueTold

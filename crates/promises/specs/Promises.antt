@@ -8,16 +8,17 @@ use lib.ListN.{length}
 use lib.Dec.{eqb}
 use Rattle.definition.specs.Tests.{if_then_else_}
 use Rattle.definition.specs.Limits.{imageBytes}
-use Rattle.definition.specs.Board.{Board, Kind, areasAt, driverAt, slotsOf, placeOf}
+use Rattle.definition.specs.Board.{Board, Kind, areasAt, driverAt, slotsOf, placeOf, permits}
 use Rattle.definition.specs.State.{Pair, Upcall, running, waiting, Process, held}
 use Rattle.definition.specs.Answer.{Answer, delivered, waits, nothing, started, successWith2, isAccepted}
 use Rattle.definition.specs.Call.{classOf}
 use Rattle.definition.specs.Decide.{Action, call, resume}
 use Rattle.definition.specs.World.{deliver, World, Step, own, Out, processAt, ramOf}
-use Rattle.definition.specs.Runs.{isOwn, ownSteps, ownAndNobodys, run, answersTo, allAnswers, sendsNone}
+use Rattle.definition.specs.Runs.{isOwn, isHeard, ownSteps, ownAndNobodys, run, answersTo, allAnswers, sendsNone}
 use Rattle.definition.specs.WellFormed.{goodState}
 use Rattle.definition.specs.Image.{boardOf, stateOf}
 use Rattle.definition.specs.Table.{Lent, worldOf, tableStep, start}
+use Rattle.definition.specs.Without.{boardWithout, wordsWithout}
 use Rattle.promises.specs.History.{Heard, historyOf, lastPair, Pending, pending, Delivery}
 use Rattle.promises.specs.Accepted.{answerTo, AcceptedExactly}
 
@@ -75,6 +76,30 @@ Isolates step =
 
 abbrev pub Isolation : Type 0
 Isolation = Isolates tableStep
+
+-- ---- a driver that is denied to a process
+
+-- what is answered to the calls and resumes of process a, to which the driver at place k is denied: given, after the list on the board of these words, and
+-- given′, on the board without the driver, whose start was answered so
+pub record Hidden (words : List ℕ) (x : Lent) (a k : ℕ) (l : List Step) (began : Answer) (given given′ : List Answer) : Type 0 where
+  pub starts : began ≡ started
+  pub alike : given ≡ given′
+  -- they are what the definition answers where its own steps are run alone on the board without the driver
+  pub alone : given′ ≡ answersTo tableStep (isHeard a) (ownSteps a l) (start (wordsWithout k words) x .after)
+
+-- for every accepted start of the definition's, every process of its board, every driver of the board that is denied to it, and every two lists with the
+-- same own steps of the process, among them no command above 0 to another shared driver, which is one that is shared on the board without the driver: the
+-- runs of a step function over the one list on this board, and over the other on the board without the driver, from the same images
+abbrev pub Hides : (Step → Lent → Out Lent) → Type 0
+Hides step =
+    (words : List ℕ) (x : Lent) → start words x .answer ≡ started → (a : ℕ) → a < length (boardOf words .processes)
+    → (k : ℕ) → k < length (boardOf words .drivers) → permits (areasAt (boardOf words) a) k ≡ false
+    → (l l′ : List Step) → ownSteps a l ≡ ownSteps a l′ → sendsNone (boardWithout k (boardOf words)) a l ≡ true
+    → let y = start words x .after in let o′ = start (wordsWithout k words) x in
+    Hidden words x a k l (o′ .answer) (answersTo step (isHeard a) l y) (answersTo step (isHeard a) l′ (o′ .after))
+
+abbrev pub Hiding : Type 0
+Hiding = Hides tableStep
 
 -- ---- demand 2
 

@@ -13,7 +13,7 @@ use Rattle.definition.specs.Answer.{Answer, refused, registers, delivered, wait
 use Rattle.definition.specs.Call.{classOf}
 use Rattle.definition.specs.Decide.{Action, call, event, View, areasOf, Outcome, answers, exchanges, polls, awaits, moves, leaves, queues, writes, commands}
 use Rattle.definition.specs.World.{cancel, deliver, afterExchange, answerOf, processAfter}
-use Rattle.laws.specs.Facts.{never, clash}
+use Rattle.laws.specs.Facts.{never, clash, map-tail, map-snoc}
 use Rattle.laws.specs.Why.{isPlain, Slot, Exchanged, Left, ended, again, Because, Why}
 use Rattle.laws.specs.Fit.{each-snoc}
 use Rattle.laws.specs.Places.{place-one}
@@ -53,14 +53,6 @@ module _ {A : Type 0} {P Q : A → Type 0} where
   each-map : ((x : A) → P x → Q x) → {l : List A} → Each P l → Each Q l
   each-map f none = none
   each-map f (more p ps) = more (f _ p) (each-map f ps)
-
-map-tail : {A B : Type 0} (f : A → B) (l : List A) → tail (map f l) ≡ map f (tail l)
-map-tail f [] = refl
-map-tail f (x ∷ l) = refl
-
-map-snoc : {A B : Type 0} (f : A → B) (l : List A) (x : A) → map f (l ++ (x ∷ [])) ≡ map f l ++ (f x ∷ [])
-map-snoc f [] x = refl
-map-snoc f (y ∷ l) x = ap (λ r. f y ∷ r) (map-snoc f l x)
 
 -- an event stands after a step that does not cancel its upcall
 later : (h : Heard) (hs : List Heard) (u : Pending) → cancels (u .driver) (u .slot) h ≡ false → TakenIn hs u → TakenIn (h ∷ hs) u

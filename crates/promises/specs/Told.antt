@@ -34,7 +34,7 @@ module _ {P : Type 0} where
   not-told false f = (λ e p. clash (f .1 p) refl, λ n. refl)
 
 module _ {P Q : Type 0} where
-  and-told : (s t : Bool) → Tells s P → Tells t Q → Tells (s && t) (P × Q)
+  pub and-told : (s t : Bool) → Tells s P → Tells t Q → Tells (s && t) (P × Q)
   and-told s t f g = (λ e. let (a, b) = both s t e in (f .0 a, g .0 b), λ h. and (f .1 (h .0)) (g .1 (h .1)))
 
   pub or-told : (s t : Bool) → Tells s P → Tells t Q → Tells (s || t) (P ⊎ Q)

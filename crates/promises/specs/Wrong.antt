@@ -1,18 +1,19 @@
 -- Wrong layers. Each is refuted on every demand that speaks of it (`Refuted`, docs/PROMISES.md).
 use Prim.Native.Nat.{ℕ, _+_, _%_, _^_}
-use mathlib.Core.Bool.{Bool, true, false, _&&_}
+use mathlib.Core.Bool.{Bool, true, false, _&&_, not}
 use lib.ListN.{set}
 use lib.Dec.{leb, eqb}
 use Rattle.definition.specs.Tests.{if_then_else_}
-use Rattle.definition.specs.Board.{readWrite, areasAt, placeOf}
-use Rattle.definition.specs.State.{held, withQueue, State}
-use Rattle.definition.specs.Answer.{Part, Answer, refused, registers, fetched, failure, success, successWith2, INVAL, isAccepted, numberOf}
+use Rattle.definition.specs.Board.{Board, readWrite, areasAt, placeOf, installed, hasSlot, permits}
+use Rattle.definition.specs.State.{Pair, Process, held, withQueue, State}
+use Rattle.definition.specs.Answer.{Part, Answer, refused, registers, fetched, failure, failureWith2, success, successWith2, RESERVE, INVAL, NOSUPPORT, NODEVICE, isAccepted, numberOf}
 use Rattle.definition.specs.Call.{pair}
-use Rattle.definition.specs.Decide.{call, event, resume, deposit, fetch, exchanges}
+use Rattle.definition.specs.Decide.{call, event, resume, deposit, fetch, exchanges, notInstalled}
 use Rattle.definition.specs.World.{Step, own, latch, Out, processAt, perform, step}
 use Rattle.definition.specs.Runs.{sendsShared}
 use Rattle.definition.specs.Image.{stateOf}
 use Rattle.definition.specs.Table.{Lent, worldOf, lentOf, outOf, tableStep, start}
+use Rattle.definition.specs.Located.{lentBy}
 use Rattle.layer.specs.Steps.{gave}
 use Rattle.layer.specs.Fetching.{partOf}
 use Rattle.promises.specs.Layers.{Layer}
@@ -117,6 +118,33 @@ upcallsKept = stepping (λ s x.
     let w = worldOf x in
     let o = step s w in
     if isCall 1 s then gave (o .answer) (lentOf (record { state = withQueueOf (callerOf s) (w .state) (o .after .state); memory = o .after .memory; flash = o .after .flash })) else outOf o)
+
+-- ---- the definition, but for what a call of a driver that is denied to the process is answered
+
+-- by the class, the place of the driver, the slot or command number and the pair that is passed, the board and the process's record
+abbrev toDenied : ((class k j : ℕ) → Pair → Board → Process → Answer) → Layer
+toDenied said = stepping (byCalls λ p class r0 r1 r2 r3 x o.
+    let s = stateOf (x .table) in
+    let k = placeOf (s .board .drivers) r0 in
+    if (leb 1 class && leb class 4) && ((installed (s .board) k && not (permits (areasAt (s .board) p) k)) && eqb (numberOf (o .answer)) 0)
+    then gave (said class k r1 (pair r2 r3) (s .board) (processAt s p)) (o .after) else o)
+
+-- plain Failure in every class, as document 01 had it
+abbrev pub deniedPlain : Layer
+deniedPlain = toDenied (λ class k j x b process. failure NODEVICE)
+
+-- the slot number is looked at first: NOSUPPORT for a slot that the driver does not have
+abbrev pub slotFirst : Layer
+slotFirst = toDenied (λ class k j x b process.
+    if eqb class 2 then failure NODEVICE else if hasSlot (lentBy class) b k j then notInstalled (lentBy class) x else failureWith2 NOSUPPORT x)
+
+-- the slot is looked up: NODEVICE, with what it holds
+abbrev pub slotLookedUp : Layer
+slotLookedUp = toDenied (λ class k j x b process. if eqb class 2 then failure NODEVICE else failureWith2 NODEVICE (held (lentBy class) process k j))
+
+-- RESERVE to a command, as if another process owned the driver
+abbrev pub deniedReserved : Layer
+deniedReserved = toDenied (λ class k j x b process. if eqb class 2 then failure RESERVE else notInstalled (lentBy class) x)
 
 -- ---- a start that always refuses, by any number; its steps are the definition's
 

@@ -31,7 +31,7 @@ use Rattle.layer.specs.Replaying.{progressBy, Plays}
 use Rattle.layer.specs.StatementLaws.{part-size}
 use Rattle.host.specs.Runs.{progressWords}
 use Rattle.promises.specs.Guarded.{guarded, run-keeps, guarded-keeps, table-step}
-use Rattle.promises.specs.Refuted.{refused-not-started}
+use Rattle.promises.specs.Demand3.{refused-not-started}
 use Rattle.promises.specs.Begins.{apart, linesOf, words, ready, begins, beginning, good, ready-is, subscribes, lends}
 
 -- ---- what a statement says of a step, after a list of steps from the start

@@ -128,11 +128,11 @@ impl core::error::Error for Refusal {}
 numbered! {
     /// What r0 of a call's return registers says of the others (TRD 104, 3.2). [`Returned`](crate::Returned) reads them all.
     ReturnVariant {
-        /// A call of any class but yield may give it.
+        /// A command, a memop, an exit or a call of an unknown class may give it.
         Failure = 0 "Failure",
         /// No call gives it.
         FailureWithU32 = 1 "Failure with u32",
-        /// Subscribe and the allows give it, with the passed values.
+        /// Subscribe and the allows give it, with the passed values; a subscribe that is answered NODEVICE gives it with zeros.
         FailureWith2U32 = 2 "Failure with 2 u32",
         /// No call gives it.
         FailureWithU64 = 3 "Failure with u64",
@@ -187,7 +187,7 @@ numbered! {
         NoMem = 9 "NOMEM",
         /// The call is not supported.
         NoSupport = 10 "NOSUPPORT",
-        /// The driver is not installed, or not permitted to the process.
+        /// The driver is not installed, or denied to the process; no call tells which.
         NoDevice = 11 "NODEVICE",
         /// The resource was removed.
         Uninstalled = 12 "UNINSTALLED",

@@ -36,7 +36,7 @@ const TAKEN_AND_REFUSED: [(&str, Counts); 11] = [
 /// What the tables at the end of generated walks give together.
 const WALKS: u64 = 16;
 const WALKS_SEED: u64 = 104;
-const TAKEN_AND_REFUSED_OF_WALKS: Counts = counts(118_757, 1_425_358);
+const TAKEN_AND_REFUSED_OF_WALKS: Counts = counts(128_492, 1_415_657);
 
 /// What the tables of `reached` give together, each with a part of another put over its own.
 const TAKEN_AND_REFUSED_OF_PARTS: Counts = counts(743, 588);

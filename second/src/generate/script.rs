@@ -302,6 +302,18 @@ impl Script {
         self.random.pick_any(&places)
     }
 
+    /// A running process, and an installed driver that it may not call.
+    pub fn pick_denied(&mut self) -> Option<(ProcessIndex, DriverNumber)> {
+        let mut denied = Vec::new();
+        for process in self.machine.indices().filter(|&process| self.is_running(process)) {
+            let board = self.machine.process_board(process);
+            let drivers = self.machine.board.drivers().iter().enumerate();
+            let drivers = drivers.filter(|&(place, _)| !board.permits(DriverPlace(place)));
+            denied.extend(drivers.map(|(_, driver)| (process, driver.number)));
+        }
+        self.random.pick_any(&denied)
+    }
+
     pub fn pick_access(&mut self) -> SlotKind {
         self.random.pick(&[SlotKind::ReadWrite, SlotKind::ReadOnly])
     }

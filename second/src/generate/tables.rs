@@ -11,7 +11,7 @@ pub struct Reached {
     pub trace: Vec<u8>,
 }
 
-/// Traces that are good to their end. Each of their steps is accepted.
+/// Traces that are good to their end. None of their steps is refused.
 pub fn reached() -> Vec<Reached> {
     let two = two_processes();
     let limits = board_at_limits();
@@ -289,6 +289,15 @@ fn denied() -> Vec<Step<'static>> {
         subscribe(0, 6, 0, [0x4_8FFF, 1]),
         event(0, 6, 0, [7, 8, 9]),
         break_to(1, 0x2000_4000),
+        // These fail, and leave nothing in the table.
+        claim(0, 5),
+        subscribe(0, 5, 3, [0x4_8000, 2]),
+        read_write(0, 5, 3, [0x2000_8000, 4]),
+        read_only(0, 5, 3, [0x4_8000, 4]),
+        release(1, 6),
+        subscribe(1, 6, 0, [0x4_0000, 3]),
+        read_write(1, 6, 0, [0x2000_0000, 4]),
+        read_only(1, 6, 0, [0x4_0000, 4]),
         yield_wait(1),
     ]
 }

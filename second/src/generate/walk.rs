@@ -39,6 +39,7 @@ const MOVES: &[(Move, usize)] = &[
     (resume_any, 2),
     (command, 6),
     (latch, 3),
+    (call_denied, 5),
     (restart, 1),
     (terminate, 1),
     (ask_memop, 2),
@@ -478,6 +479,39 @@ fn latch(script: &mut Script) {
     let driver = pick_shared(script).unwrap_or_else(|| script.any_driver());
     let value = script.value();
     script.latch(driver, value);
+}
+
+/// Calls of a driver that the process may not call. Each is followed by the
+/// driver's own step on the slot that it named: nothing must have been stored.
+fn call_denied(script: &mut Script) {
+    let Some((process, driver)) = script.pick_denied() else {
+        return;
+    };
+    for _ in 0..script.random.within(1..=4) {
+        let slot = script.any_slot();
+        let class = script.random.pick(&[1, 2, 3, 4]);
+        let [first, second] = slot_values(script, process, class);
+        script.call(process, class, [driver.0, slot, first, second]);
+        match class {
+            1 => script.event_by_number(process, driver, slot),
+            3 => script.deposit(process, driver, slot, 0, 1),
+            4 => script.fetch(process, driver, slot, 0, 1),
+            _ => {}
+        }
+    }
+}
+
+/// What a call of classes 1 to 4 may pass: values that a slot would take, or
+/// that it would not.
+fn slot_values(script: &mut Script, process: ProcessIndex, class: u8) -> [u32; 2] {
+    let buffer = match class {
+        1 => return [script.any_pointer(process), script.value()],
+        2 => return [script.value(), script.value()],
+        3 if script.random.one_in(2) => script.good_buffer(process, SlotKind::ReadWrite),
+        4 if script.random.one_in(2) => script.good_buffer(process, SlotKind::ReadOnly),
+        _ => script.edge_buffer(process),
+    };
+    [buffer.address, buffer.size]
 }
 
 fn restart(script: &mut Script) {

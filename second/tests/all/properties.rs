@@ -4,20 +4,14 @@ use second::board::ProcessIndex;
 use second::generate::{generate, Kind};
 use second::state::Machine;
 use second::step::{Answer, Refusal, Step};
-use second::trace::Reader;
+use second::trace::read_trace;
 use second::variant::ReturnVariant;
 
 const SEED: u64 = 7;
 
 /// Board words and steps of a good trace.
 fn read(trace: &[u8]) -> (Vec<u32>, Vec<Step<'_>>) {
-    let mut reader = Reader::new(trace);
-    let words = reader.board().expect("a board");
-    let mut steps = Vec::new();
-    while let Some(step) = reader.step().expect("a good record") {
-        steps.push(step);
-    }
-    (words, steps)
+    read_trace(trace).expect("good records")
 }
 
 fn start(words: &[u32]) -> Machine {
@@ -62,18 +56,6 @@ fn refusals_failures_and_fetches_change_nothing() {
     }
 }
 
-/// The process that a step names.
-fn named(step: &Step) -> Option<ProcessIndex> {
-    match *step {
-        Step::Call { process, .. }
-        | Step::Event { process, .. }
-        | Step::Resume { process }
-        | Step::Deposit { process, .. }
-        | Step::Fetch { process, .. } => Some(process),
-        Step::Latch { .. } => None,
-    }
-}
-
 /// Whether the step is a command above 0 to a shared driver, by this process.
 fn is_shared_command(machine: &Machine, step: &Step, process: ProcessIndex) -> bool {
     let Step::Call { process: caller, class: 2, registers: [driver, number, ..] } = *step else {
@@ -93,7 +75,7 @@ fn run(words: &[u32], steps: &[Step], process: ProcessIndex) -> (Vec<Seen>, Mach
     let mut answers = Vec::new();
     for step in steps {
         let answer = machine.step(*step);
-        if named(step) == Some(process) {
+        if step.process() == Some(process) {
             let bytes = match answer {
                 Ok(Answer::Fetched(part)) => machine.bytes(part).to_vec(),
                 _ => Vec::new(),
@@ -115,7 +97,7 @@ fn a_process_is_not_touched_by_the_others() {
         let process = ProcessIndex(index as u32 % machine.processes.len() as u32);
         steps.retain(|step| !is_shared_command(&machine, step, process));
         let (answers, together) = run(&words, &steps, process);
-        steps.retain(|step| named(step) == Some(process));
+        steps.retain(|step| step.process() == Some(process));
         let (alone_answers, alone) = run(&words, &steps, process);
 
         assert_eq!(answers, alone_answers, "walk {index}");
@@ -138,7 +120,7 @@ fn deliveries_keep_the_order_of_the_events() {
         let mut histories: Vec<Vec<[u32; 4]>> = vec![Vec::new(); machine.processes.len()];
         for step in steps {
             let answer = machine.step(step);
-            let Some(history) = named(&step).and_then(|p| histories.get_mut(p.place())) else {
+            let Some(history) = step.process().and_then(|p| histories.get_mut(p.place())) else {
                 continue;
             };
             match (step, answer) {

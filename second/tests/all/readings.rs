@@ -1,4 +1,4 @@
-//! The settled readings 1 to 21, by number, as far as a trace can show them.
+//! The settled readings 1 to 22, by number, as far as a trace can show them.
 
 use crate::common::*;
 use second::board::{DriverPlace, ProcessIndex, SlotKind};
@@ -178,17 +178,16 @@ fn reading_9_waiting_and_exited_processes() {
 
 #[test]
 fn reading_10_only_calls_look_at_the_mask() {
-    let denied = a(0, 11, 0, 0);
     let words = with_mask(0);
     expect_on(
         &words,
         &[
-            (subscribe(0, CONSOLE, 0, [0x4_0010, 1]), denied.clone()),
-            (subscribe(0, CONSOLE, 9, [1, 1]), denied.clone()),
-            (allow_rw(0, CONSOLE, 0, [0x2000_0000, 1]), denied.clone()),
-            (allow_ro(0, CONSOLE, 0, [0x2000_0000, 1]), denied.clone()),
-            (command(0, CONSOLE, 0), denied.clone()),
-            (command(0, CORRELATOR, 1), denied),
+            (subscribe(0, CONSOLE, 0, [0x4_0010, 1]), a(2, 11, 0, 0)),
+            (subscribe(0, CONSOLE, 9, [1, 1]), a(2, 11, 0, 0)),
+            (allow_rw(0, CONSOLE, 0, [0x2000_0000, 1]), a(2, 11, 0x2000_0000, 1)),
+            (allow_ro(0, CONSOLE, 0, [0x2000_0000, 1]), a(2, 11, 0x2000_0000, 1)),
+            (command(0, CONSOLE, 0), a(0, 11, 0, 0)),
+            (command(0, CORRELATOR, 1), a(0, 11, 0, 0)),
             (event(0, CONSOLE, 0, [0; 3]), x(11)),
             (event(0, CONSOLE, 2, [0; 3]), x(8)),
             (deposit(0, CONSOLE, 0, 0, &[]), line('D', &[])),
@@ -227,7 +226,9 @@ fn reading_13_order_in_classes_1_to_4() {
     expect_on(
         &words,
         &[
-            (subscribe(0, CONSOLE, 9, [bad, bad]), a(0, 11, 0, 0)),
+            (subscribe(0, CONSOLE, 9, [bad, bad]), a(2, 11, 0, 0)),
+            (allow_rw(0, CONSOLE, 9, [bad, bad]), a(2, 11, bad, bad)),
+            (allow_ro(0, CONSOLE, 9, [bad, bad]), a(2, 11, bad, bad)),
             (subscribe(0, 7, 9, [bad, bad]), a(2, 11, 0, 0)),
             (allow_rw(0, 7, 9, [bad, bad]), a(2, 11, bad, bad)),
             (allow_ro(0, 7, 9, [bad, bad]), a(2, 11, bad, bad)),
@@ -394,6 +395,14 @@ fn reading_21_well_formed_does_not_ask_for_permission() {
     // Owning a driver is another matter.
     machine.drivers[1].owner = Some(ProcessIndex(0));
     assert!(!machine.is_well_formed());
+}
+
+#[test]
+fn reading_22_command_answers_plain_failure_denied_or_not_installed() {
+    for driver in [CORRELATOR, 7] {
+        let commands = [0, 1, 2, 3, 4, u32::MAX].map(|number| command(0, driver, number));
+        expect_on(&with_mask(1), &commands.map(|command| (command, a(0, 11, 0, 0))));
+    }
 }
 
 #[test]
