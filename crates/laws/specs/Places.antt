@@ -50,14 +50,14 @@ number-place b n k good h e = first-place (b .drivers) n k h e (λ i q same.
 
 -- ---- a driver that is reached
 
-pub record At (b : Board) (a : Areas) (driver k : ℕ) : Type 0 where
+pub record ReachedAt (b : Board) (a : Areas) (driver k : ℕ) : Type 0 where
   pub place : placeOf (b .drivers) driver ≡ k
   pub installed : k < length (b .drivers)
   pub permitted : permits a k ≡ true
 
-pub reached-at : (b : Board) (a : Areas) (driver k : ℕ) → reach b a driver ≡ atPlace k → At b a driver k
+pub reached-at : (b : Board) (a : Areas) (driver k : ℕ) → reach b a driver ≡ atPlace k → ReachedAt b a driver k
 unfolding reach
-reached-at b a driver k e = either (λ r. r ≡ atPlace k → At b a driver k) _ _ _
+reached-at b a driver k e = either (λ r. r ≡ atPlace k → ReachedAt b a driver k) _ _ _
     (λ t q. let (i, p) = both _ _ t in let here = at-one _ k q in record { place = here; installed = subst (λ k. k < length (b .drivers)) here (ltb-true _ _ i); permitted = subst (λ k. permits a k ≡ true) here p })
     (λ _ q. never (cc)) e
   where

@@ -1,4 +1,5 @@
--- The accepted start from which wrong layers are refuted: the board of the cases, on zeros. What each demand says of a layer there.
+-- The accepted starts from which wrong layers are refuted: on zeros, the board of the cases, and that board with a driver more, which is denied to both
+-- processes. What is asked of a layer there.
 use Prim.Native.Nat.{ℕ, zero, suc, _≤_, _<_}
 use mathlib.Core.Path.{_≡_, refl, sym, ap, _∙_, subst}
 use mathlib.Core.Bool.{true, false}

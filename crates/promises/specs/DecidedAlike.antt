@@ -17,12 +17,12 @@ use Rattle.definition.specs.Answer.{Answer, success, successWith1}
 use Rattle.definition.specs.Call.{Call, yieldNoWait, yieldWait, exchange, command, breakTo, breakBy, bound, exitTerminate, exitRestart, Decoded, known, aside, decode, decodeYield, decodeMemop, decodeExit}
 use Rattle.definition.specs.Decide.{Action, call, event, resume, deposit, fetch, View, Outcome, answers, reaching, decideExchangeAt, decideExchange, decideCommandAt, decideCommand, decideBreak, decideBreakBy, decideKnown, decideCall, decideAccepted, slotRows, actionRows, refusal, refuse, decide}
 use Rattle.definition.specs.Runs.{sendsShared}
-use Rattle.definition.specs.Without.{areasWithout, boardWithout}
+use Rattle.definition.specs.Without.{boardWithout}
 use Rattle.laws.specs.Facts.{clash, either, and, passed}
 use Rattle.laws.specs.Why.{Slot}
 use Rattle.laws.specs.Walk.{slot-of, nonzero}
 use Rattle.laws.specs.Boards.{few-drivers, few-slots}
-use Rattle.laws.specs.Places.{At, reached-at}
+use Rattle.laws.specs.Places.{ReachedAt, reached-at}
 use Rattle.promises.specs.TakenOut.{down}
 use Rattle.promises.specs.BoardWithout.{areas-without, processes-without, place-down, slot-down, shared-down, installed-down, place-gone, lower, reach-down, reach-apart}
 use Rattle.promises.specs.Beside.{lowered, Beside, clears-same, accepts-same}
@@ -82,7 +82,7 @@ module _ (k a : ℕ) (b : Board) (good : goodBoard b ≡ true) (hk : k < length 
 
   -- ---- calls that name a driver: what is reached is the same driver, at the place where it stands, or none on both
 
-  reach-match : (driver : ℕ) (x : Answer) (f f′ : ℕ → Outcome) → ((i : ℕ) → i ≢ k → At b (areasAt b a) driver i → Match k true (f i) (f′ (down k i)))
+  reach-match : (driver : ℕ) (x : Answer) (f f′ : ℕ → Outcome) → ((i : ℕ) → i ≢ k → ReachedAt b (areasAt b a) driver i → Match k true (f i) (f′ (down k i)))
       → Match k true (reaching (reach b (areasAt b a) driver) x f) (reaching (reach b′ (areasAt b′ a) driver) x f′)
   unfolding reaching
   reach-match driver x f f′ g = rw (reach-down k b hk good a denied driver) (go (reach b (areasAt b a) driver) refl)

@@ -3,27 +3,26 @@
 -- gives it what its own steps alone do, as in demand 3.
 use Prim.Native.Nat.{ℕ, _<_}
 use mathlib.Core.Path.{_≡_, refl, sym, ap, _∙_, subst}
-use mathlib.Core.Bool.{Bool, true, false, _&&_, not}
+use mathlib.Core.Bool.{Bool, true, false, not}
 use mathlib.Core.List.{List, [], _∷_}
 use lib.ListN.{length, List·getD-map}
-use lib.Dec.{eqb}
 use borrow.Author.Tests.{eqb-true, eq-eqb, not-true, not-false}
 use Rattle.definition.specs.Tests.{if_then_else_, firstOf}
-use Rattle.definition.specs.Board.{Board, noAreas, areasAt, placeOf, isShared, permits, goodBoard}
+use Rattle.definition.specs.Board.{Board, noAreas, areasAt, permits, goodBoard}
 use Rattle.definition.specs.State.{running, cleared, fresh}
-use Rattle.definition.specs.Answer.{refused, started}
+use Rattle.definition.specs.Answer.{started}
 use Rattle.definition.specs.Decide.{Action, call, event, resume, deposit, fetch}
 use Rattle.definition.specs.World.{World, Step, own, latch, Out, processAt, ramOf, viewOf}
-use Rattle.definition.specs.Runs.{isOwn, isHeard, those, ownSteps, answersTo, sendsShared, sendsNone}
-use Rattle.definition.specs.Image.{lentBoard, boardOf, goodBoardWords, tableWords}
+use Rattle.definition.specs.Runs.{isOwn, isHeard, those, ownSteps, answersTo, sendsNone}
+use Rattle.definition.specs.Image.{lentBoard, boardOf, tableWords}
 use Rattle.definition.specs.Table.{Lent, lentOf, tableStep, start}
 use Rattle.definition.specs.Without.{boardWithout, wordsWithout}
-use Rattle.laws.specs.Facts.{never, clash, either, both, passed}
+use Rattle.laws.specs.Facts.{clash, either, both, passed}
 use Rattle.laws.specs.Good.{Good}
 use Rattle.laws.specs.Kept.{fresh-good}
 use Rattle.laws.specs.BoardWords.{lent-back, board-words-good}
-use Rattle.promises.specs.Promises.{Hidden, Hiding}
-use Rattle.promises.specs.Guarded.{guarded, guarded-keeps, guarded-board, table-answers}
+use Rattle.promises.specs.Promises.{Hiding}
+use Rattle.promises.specs.Guarded.{guarded, guarded-keeps, table-answers}
 use Rattle.promises.specs.Isolation.{same-refl, other-guarded}
 use Rattle.promises.specs.IsolatedRuns.{quiet-first, quiet-rest, quiet-those, quiet-own, Owns, not-owned, lonely}
 use Rattle.promises.specs.Demand3.{refused-not-started, accepted-start}
@@ -31,7 +30,7 @@ use Rattle.promises.specs.BoardWithout.{areas-without, processes-without
 use Rattle.promises.specs.Beside.{Beside}
 use Rattle.promises.specs.Matched.{cleared-beside}
 use Rattle.promises.specs.DecidedAlike.{hears}
-use Rattle.promises.specs.HiddenSteps.{Alongside, here, Both, guarded-both}
+use Rattle.promises.specs.HiddenSteps.{Alongside, here, guarded-both}
 
 -- ---- a process is itself answered its calls and resumes
 

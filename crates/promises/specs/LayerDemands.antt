@@ -4,7 +4,7 @@ use mathlib.Core.Path.{_≡_, refl, sym, ap, ap₂, _∙_, subst}
 use mathlib.Core.Bool.{Bool, true}
 use mathlib.Core.List.{List, [], _∷_}
 use Rattle.definition.specs.Tests.{if_then_else_}
-use Rattle.definition.specs.Answer.{Answer, started, fetched, changesNothing}
+use Rattle.definition.specs.Answer.{Answer, fetched, changesNothing}
 use Rattle.definition.specs.Decide.{Action, fetch}
 use Rattle.definition.specs.World.{Step, own, Out}
 use Rattle.definition.specs.Runs.{isOwn, isHeard, run, answersTo, allAnswers}

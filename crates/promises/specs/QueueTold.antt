@@ -13,7 +13,7 @@ use Rattle.definition.specs.Answer.{Answer, refused, registers, delivered, wait
 use Rattle.definition.specs.Call.{classOf}
 use Rattle.definition.specs.Decide.{Action, call, event, View, areasOf, Outcome, answers, exchanges, polls, awaits, moves, leaves, queues, writes, commands}
 use Rattle.definition.specs.World.{cancel, deliver, afterExchange, answerOf, processAfter}
-use Rattle.laws.specs.Facts.{never, clash, map-tail, map-snoc}
+use Rattle.laws.specs.Facts.{never, clash, map-snoc}
 use Rattle.laws.specs.Why.{isPlain, Slot, Exchanged, Left, ended, again, Because, Why}
 use Rattle.laws.specs.Fit.{each-snoc}
 use Rattle.laws.specs.Places.{place-one}

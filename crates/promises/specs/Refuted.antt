@@ -8,7 +8,7 @@ use native.Mathlib.Omega.{arith}
 use lib.ListN.{length, getD}
 use Rattle.definition.specs.Board.{Kind, subscribe, readWrite}
 use Rattle.definition.specs.State.{null}
-use Rattle.definition.specs.Answer.{memory, Part, Answer, refused, registers, started, fetched, successWith1, successWith2, failure, success, INVAL, isAccepted}
+use Rattle.definition.specs.Answer.{memory, Part, Answer, registers, fetched, successWith1, successWith2, failure, success, INVAL, isAccepted}
 use Rattle.definition.specs.Call.{pair, classOf}
 use Rattle.definition.specs.Decide.{call, event, fetch}
 use Rattle.definition.specs.World.{Step, own, Out}
