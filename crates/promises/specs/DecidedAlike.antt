@@ -16,7 +16,7 @@ use Rattle.definition.specs.State.{Pair, null, isExited, Process, held}
 use Rattle.definition.specs.Answer.{Answer, success, successWith1}
 use Rattle.definition.specs.Call.{Call, yieldNoWait, yieldWait, exchange, command, breakTo, breakBy, bound, exitTerminate, exitRestart, Decoded, known, aside, decode, decodeYield, decodeMemop, decodeExit}
 use Rattle.definition.specs.Decide.{Action, call, event, resume, deposit, fetch, View, Outcome, answers, reaching, decideExchangeAt, decideExchange, decideCommandAt, decideCommand, decideBreak, decideBreakBy, decideKnown, decideCall, decideAccepted, slotRows, actionRows, refusal, refuse, decide}
-use Rattle.definition.specs.Runs.{sendsShared}
+use Rattle.definition.specs.Runs.{hears, sendsShared}
 use Rattle.definition.specs.Without.{boardWithout}
 use Rattle.laws.specs.Facts.{clash, either, and, passed}
 use Rattle.laws.specs.Why.{Slot}
@@ -27,14 +27,6 @@ use Rattle.promises.specs.TakenOut.{down}
 use Rattle.promises.specs.BoardWithout.{areas-without, processes-without, place-down, slot-down, shared-down, installed-down, place-gone, lower, reach-down, reach-apart}
 use Rattle.promises.specs.Beside.{lowered, Beside, clears-same, accepts-same}
 use Rattle.promises.specs.Matched.{Match, answer, unheard, swap, poll, await, move, leave, queue, write, unwritten}
-
--- a call or a resume
-abbrev pub hears : Action → Bool
-hears (call class r0 r1 r2 r3) = true
-hears (event driver j x y z) = false
-hears resume = true
-hears (deposit driver j offset bytes) = false
-hears (fetch driver j offset n) = false
 
 -- a command above 0 to a shared driver, once decoded
 abbrev asks : Board → Decoded → Bool

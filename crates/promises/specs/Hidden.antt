@@ -6,14 +6,15 @@ use mathlib.Core.Path.{_≡_, refl, sym, ap, _∙_, subst}
 use mathlib.Core.Bool.{Bool, true, false, not}
 use mathlib.Core.List.{List, [], _∷_}
 use lib.ListN.{length, List·getD-map}
+use lib.Dec.{eqb}
 use borrow.Author.Tests.{eqb-true, eq-eqb, not-true, not-false}
 use Rattle.definition.specs.Tests.{if_then_else_, firstOf}
 use Rattle.definition.specs.Board.{Board, noAreas, areasAt, permits, goodBoard}
 use Rattle.definition.specs.State.{running, cleared, fresh}
 use Rattle.definition.specs.Answer.{started}
-use Rattle.definition.specs.Decide.{Action, call, event, resume, deposit, fetch}
+use Rattle.definition.specs.Decide.{Action}
 use Rattle.definition.specs.World.{World, Step, own, latch, Out, processAt, ramOf, viewOf}
-use Rattle.definition.specs.Runs.{isOwn, isHeard, those, ownSteps, answersTo, sendsNone}
+use Rattle.definition.specs.Runs.{isOwn, hears, isHeard, those, ownSteps, answersTo, sendsNone}
 use Rattle.definition.specs.Image.{lentBoard, boardOf, tableWords}
 use Rattle.definition.specs.Table.{Lent, lentOf, tableStep, start}
 use Rattle.definition.specs.Without.{boardWithout, wordsWithout}
@@ -29,27 +30,18 @@ use Rattle.promises.specs.Demand3.{refused-not-started, accepted-start}
 use Rattle.promises.specs.BoardWithout.{areas-without, processes-without, without-good}
 use Rattle.promises.specs.Beside.{Beside}
 use Rattle.promises.specs.Matched.{cleared-beside}
-use Rattle.promises.specs.DecidedAlike.{hears}
 use Rattle.promises.specs.HiddenSteps.{Alongside, here, guarded-both}
 
 -- ---- a process is itself answered its calls and resumes
 
 heard-own : (a : ℕ) → Owns a (isHeard a)
 unfolding isOwn isHeard
-heard-own a (own q (call class r0 r1 r2 r3)) e = e
-heard-own a (own q (event driver j x y z)) e = clash {t = false} e refl
-heard-own a (own q resume) e = e
-heard-own a (own q (deposit driver j offset bytes)) e = clash {t = false} e refl
-heard-own a (own q (fetch driver j offset n)) e = clash {t = false} e refl
+heard-own a (own q x) e = both (eqb q a) (hears x) e .0
 heard-own a (latch driver peak) e = clash {t = false} e refl
 
 heard-hears : (a : ℕ) (x : Action) → isHeard a (own a x) ≡ true → hears x ≡ true
 unfolding isHeard
-heard-hears a (call class r0 r1 r2 r3) e = refl
-heard-hears a (event driver j x y z) e = e
-heard-hears a resume e = refl
-heard-hears a (deposit driver j offset bytes) e = e
-heard-hears a (fetch driver j offset n) e = e
+heard-hears a x e = both (eqb a a) (hears x) e .1
 
 -- ---- a list on the board, beside its own steps on the board without the driver
 
@@ -105,12 +97,13 @@ module _ (k a : ℕ) (b : Board) (good : goodBoard b ≡ true) (hk : k < length 
 
 -- ---- the start on the board without the driver
 
--- a start with the words of another good board
+-- an accepted start had a table of the right length
 start-size : (words : List ℕ) (x : Lent) → start words x .answer ≡ started → length (x .table) ≡ tableWords
 unfolding start
 start-size words x e = either (λ (o : Out Lent). o .answer ≡ started → length (x .table) ≡ tableWords) _ _ _
     (λ t _. eqb-true _ _ (not-false _ (passed _ _ _ (eqb-true _ 0 t) .0))) (λ _ q. refused-not-started _ q) e
 
+-- on which every good board starts
 start-good : (x : Lent) (b : Board) → length (x .table) ≡ tableWords → goodBoard b ≡ true → start (lentBoard b) x .answer ≡ started
 unfolding start firstOf if_then_else_
 start-good x b e g = rw (eq-eqb (length (x .table)) tableWords e, board-words-good b g)

@@ -11,7 +11,7 @@ use Rattle.definition.specs.Limits.{maxDrivers, imageBytes}
 use Rattle.definition.specs.Board.{Board, areasAt, permits, goodBoard}
 use Rattle.definition.specs.Decide.{Action, call, event, resume, deposit, fetch, View}
 use Rattle.definition.specs.World.{processAfter, writeOf, World, own, Out, processAt, viewOf, perform, step}
-use Rattle.definition.specs.Runs.{sendsShared}
+use Rattle.definition.specs.Runs.{hears, sendsShared}
 use Rattle.definition.specs.Table.{wrongImage, refuseStep, lentOf}
 use Rattle.definition.specs.Without.{areasWithout, boardWithout}
 use Rattle.laws.specs.Boards.{few-drivers}
@@ -23,7 +23,7 @@ use Rattle.promises.specs.Isolation.{nextView, own-view, own-process, ow
 use Rattle.promises.specs.BoardWithout.{areas-without, processes-without}
 use Rattle.promises.specs.Beside.{Beside}
 use Rattle.promises.specs.Matched.{Match, after-match, answer-match, ram-match}
-use Rattle.promises.specs.DecidedAlike.{hears, decide-match}
+use Rattle.promises.specs.DecidedAlike.{decide-match}
 
 -- ---- worlds on the two boards, as process a sees them
 
