@@ -1,5 +1,7 @@
 // What a C or Rust host links: the layer's steps on numbers and slices, where a held buffer lies, and its run over a trace. Each takes any
 // numbers and slices; a step says what it did in six words of a slice that the host lends, and the run in three.
+#![tactic(auto)]
+
 ghost use Rattle.std.specs.Prelude.{◌≡◌};
 ghost use Rattle.definition.specs.Decide.{call, event, resume, deposit, fetch};
 ghost use Rattle.definition.specs.World.{own, latch};

@@ -6,6 +6,8 @@
 // refused too. What is deposited for process 1 lands in its buffer, and in no other byte of the image; a driver fetches it from there, for
 // process 1 and not for process 0.
 
+#![tactic(auto)]
+
 use libc::STDOUT_FILENO;
 use table::Table;
 use types::{Answer, Driver, Image, Process, Registers};

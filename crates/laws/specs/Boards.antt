@@ -17,7 +17,7 @@ pub record Placed (a : Areas) : Type 0 where
   pub grant_high : a.grant_start ≤ a.ram_end
   pub top : a.ram_end ≤ memory_base + image_bytes
   pub some : a.ram_start < a.ram_end
-  pub flash_base_lem : flash_base ≤ a.flash_start
+  pub flash_low : flash_base ≤ a.flash_start
   pub flash_top : a.flash_end ≤ flash_base + image_bytes
 
 placed_of : (drivers : ℕ) (a : Areas) → good_areas drivers a ≡ true → Placed a
@@ -31,7 +31,7 @@ placed_of drivers a e =
       grant_high = leb-true _ _ h.1.1.1.0;
       top = leb-true _ _ h.1.1.1.1.0;
       some = ltb-true _ _ h.1.1.1.1.1.0;
-      flash_base_lem = leb-true _ _ h.1.1.1.1.1.1.0;
+      flash_low = leb-true _ _ h.1.1.1.1.1.1.0;
       flash_top = leb-true _ _ h.1.1.1.1.1.1.1.1.0;
     }
 

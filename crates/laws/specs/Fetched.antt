@@ -67,7 +67,7 @@ module _ (p : ℕ) (w : World) (g : Good w.state) (size : length w.memory ≡ im
       handed memory (x.first + offset - memory_base) n _
       (part_part (areas.ram_start - memory_base) (areas.ram_end - areas.ram_start) (x.first + offset - areas.ram_start) n w.memory (omega arith) ∙ ap (λ k. take n (drop k w.memory)) place)
       (omega (arith, o.top))
-  part_handed x in_flash offset n o e (_, _, (s, t)) some h = handed flash (x.first + offset - flash_base) n _ refl (omega (arith, o.flash-base, o.flash_top))
+  part_handed x in_flash offset n o e (_, _, (s, t)) some h = handed flash (x.first + offset - flash_base) n _ refl (omega (arith, o.flash_low, o.flash_top))
   part_handed x outside offset n o e l some h = clash e refl
 
   -- a length of 0 touches no address; else the buffer is not empty

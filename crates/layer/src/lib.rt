@@ -1,4 +1,6 @@
 // The layer: its public functions take any table and any images, and answer as document 01 says. What works on a checked table is private.
+#![tactic(auto)]
+
 ghost use Rattle.std.specs.Prelude.{◌≡◌};
 ghost use Rattle.definition.specs.Answer.{number_of};
 ghost use Rattle.definition.specs.Decide.{call, event, resume, deposit, fetch};

@@ -1,5 +1,7 @@
 // Replays the trace on standard input: its lines go to standard output. All that matters is the layer's `replay`. Here the images are zeros,
 // lines are written as they come, and a trace that is too long is only said to be. What cannot be read or written is told on standard error.
+#![tactic(auto)]
+
 ghost use Rattle.std.specs.Prelude.{◌⊎◌, ◌≡◌, ◌≤◌, ◌<◌, length};
 
 mod streams;
