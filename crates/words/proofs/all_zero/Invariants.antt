@@ -1,14 +1,10 @@
 -- The invariant: every word below i is zero. The measure is what is left.
-use mathlib.Core.Path.{◌≡◌, refl, ap}
-use mathlib.Core.Bool.{true, not}
+use mathlib.Core.Path.{◌≡◌}
+use mathlib.Core.Bool.{true}
 use Prim.Native.Nat.{◌-◌, ◌≤◌}
-use native.Mathlib.Omega.{arith}
 use lib.ListN.{length, get_or}
 use lib.Dec.{eqb}
-use borrow.Author.Tests.{eq-eqb, ne_eqb}
 use Rattle.definition.specs.Tests.{every_below}
-use Rattle.laws.specs.Zero.{all_zero}
-use Rattle.words.specs.Loops.{below_none, below_stop, below_more, below_done}
 use Rattle.words.proofs.all_zero.Given as goal
 
 abbrev pub invariant-loop-i : goal.invariant-loop-i

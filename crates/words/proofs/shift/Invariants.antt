@@ -1,11 +1,9 @@
 -- The invariant: the first i words are those of the shifted list, and the others as they were.
-use mathlib.Core.Path.{◌≡◌, refl, ◌∙◌}
+use mathlib.Core.Path.{◌≡◌}
 use mathlib.Core.List.{◌++◌}
 use Prim.Native.Nat.{◌-◌, ◌≤◌}
-use native.Mathlib.Omega.{arith}
-use lib.ListN.{length, take, drop, length-set}
+use lib.ListN.{length, take, drop}
 use Rattle.words.specs.Splice.{shifted}
-use Rattle.words.proofs.Laws.{front_all, shifted_length, shift_turn}
 use Rattle.words.proofs.shift.Given as goal
 
 abbrev pub invariant-loop-i : goal.invariant-loop-i

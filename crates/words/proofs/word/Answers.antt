@@ -1,6 +1,5 @@
 -- The index is below the length, and a 32-bit word fits.
 use native.Mathlib.Omega.{arith}
-use borrow.Author.Rules.{rules}
 use Rattle.words.proofs.word.Goals as goal
 
 pub overflow_cast-result : goal.overflow_cast-result

@@ -1,7 +1,6 @@
 -- Past the end there is only the default, 0.
 use mathlib.Core.Path.{sym}
 use lib.ListN.{get_or-eq_default}
-use borrow.Author.Rules.{rules}
 use Rattle.words.proofs.word_or_zero.Goals as goal
 
 pub returns-else-at-t : goal.returns-else-at-t

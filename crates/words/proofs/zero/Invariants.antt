@@ -1,10 +1,8 @@
 -- The invariant: the first i words are zero, and the others as they were.
-use mathlib.Core.Path.{◌≡◌, refl, ◌∙◌}
+use mathlib.Core.Path.{◌≡◌}
 use mathlib.Core.List.{◌++◌}
 use Prim.Native.Nat.{◌-◌, ◌≤◌}
-use native.Mathlib.Omega.{arith}
-use lib.ListN.{length, take, drop, replicate, length-set, length-replicate}
-use Rattle.words.proofs.Laws.{front_all, zero_turn}
+use lib.ListN.{length, take, drop, replicate}
 use Rattle.words.proofs.zero.Given as goal
 
 abbrev pub invariant-loop-i : goal.invariant-loop-i
