@@ -27,7 +27,7 @@ use table_check::checks;
 use types::{Answer, Area, Driver, Image, Kind, Pair, Process, Registers};
 
 // Where a part of an image lies: which image, the place of its first byte there, and how many bytes it has.
-#[derive(Drop)]
+#[derive(Clone, Copy)]
 pub struct Place {
     pub image: Image,
     pub place: u32,
@@ -35,21 +35,21 @@ pub struct Place {
 }
 
 // What a fetch is answered with, in numbers: 0 where it is accepted, else the number of its refusal; and where its part lies.
-#[derive(Drop)]
+#[derive(Clone, Copy)]
 pub struct Fetched {
     pub number: u32,
     pub place: Place,
 }
 
 // A held buffer: where it lies, and its address and size.
-#[derive(Drop)]
+#[derive(Clone, Copy)]
 struct Buffer {
     area: Area,
     pair: Pair,
 }
 
 // Where a held buffer lies, with its address and size; or the number that the question is refused with.
-#[derive(Drop)]
+#[derive(Clone, Copy)]
 pub enum Located {
     Refused(u32),
     Lies(Area, Pair),
@@ -57,7 +57,7 @@ pub enum Located {
 
 // How far a run over a trace has come: it has ended, with so many bytes written; or it has paused for want of room before what stands at a
 // place of the trace, with so many bytes written, all of them whole lines.
-#[derive(Drop)]
+#[derive(Clone, Copy)]
 pub enum Progress {
     Ended(usize),
     Paused(usize, usize),

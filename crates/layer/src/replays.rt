@@ -20,7 +20,7 @@ use trace::records::{Board, Fields, Read, Record, Words, board_at};
 use types::{Answer, Driver, Process, Registers};
 
 // What became of a record: the run goes on at the next one, with its lines' new end; it has ended there; or there is no room for a line.
-#[derive(Drop)]
+#[derive(Clone, Copy)]
 enum Turn {
     On(usize, usize),
     Ended(usize),
@@ -28,7 +28,7 @@ enum Turn {
 }
 
 // Where a line that was put ends; or there is no room for it.
-#[derive(Drop)]
+#[derive(Clone, Copy)]
 enum Room {
     Used(usize),
     Short,
