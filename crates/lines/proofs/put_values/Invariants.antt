@@ -1,0 +1,12 @@
+-- The invariant: the values before the i-th are written. The measure is how many are left.
+use Prim.Native.Nat.{◌-◌}
+use native.Mathlib.Omega.{arith}
+use lib.ListN.{length}
+use Rattle.lines.proofs.LineLaws.{Wrote, wrote_none, wrote_room, wrote_more, wrote_all}
+use Rattle.lines.proofs.put_values.Given as goal
+
+abbrev pub invariant-loop-i : goal.invariant-loop-i
+invariant-loop-i l = Wrote 9 l.values l.at l.initial.out l.out l.i l.next
+
+abbrev pub decreases-loop-i : goal.decreases-loop-i
+decreases-loop-i l = length l.values - l.i

@@ -1,0 +1,18 @@
+-- The invariant: the fields so far stand at the front of `out`, and what is read from here is what is read of the whole.
+use mathlib.Core.Path.{◌≡◌, refl, sym, ◌∙◌}
+use mathlib.Core.Logic.{⊎_elim}
+use Prim.Native.Nat.{◌-◌}
+use native.Mathlib.Omega.{arith}
+use borrow.Author.Rules.{rules}
+use lib.ListN.{length, get_or}
+use Rattle.definition.specs.Trace.{number, read_at}
+use Rattle.trace.specs.Meaning.{number_found}
+use Rattle.trace.proofs.NumberLaws as N
+use Rattle.trace.proofs.FieldLaws as L
+use Rattle.trace.proofs.records.fields_at.Given as goal
+
+abbrev pub invariant-loop-i : goal.invariant-loop-i
+invariant-loop-i l = L.SoFar l.trace l.at l.limits l.initial.out l.out l.i l.place
+
+abbrev pub decreases-loop-i : goal.decreases-loop-i
+decreases-loop-i l = length l.limits - l.i
