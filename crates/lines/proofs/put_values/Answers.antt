@@ -1,3 +1,4 @@
+-- Each turn puts a space and the digits of one value; a value of 32 bits has at most ten.
 use Prim.Native.Nat.{◌-◌}
 use native.Mathlib.Omega.{arith}
 use lib.ListN.{length}
@@ -8,10 +9,10 @@ pub loop-i-init : goal.loop-i-init
 loop-i-init c = wrote_none
 
 pub put_word-next-requires : goal.put_word-next-requires
-put_word-next-requires c = wrote_room 9 c.requires (omega arith) (omega (arith, c.type_inv.values c.loop-i.i)) c.loop-i.invariant c.put_byte-next.ensures c.put_byte-next.auto.0
+put_word-next-requires c = wrote_room 9 c.requires (omega arith) (omega (arith, c.type_inv.values c.loop-i.i)) c.loop-i.invariant c.put_byte-next.ensures c.put_byte-next.auto.out
 
 pub loop-i-preserved : goal.loop-i-preserved
-loop-i-preserved c = wrote_more 9 c.requires (omega arith) (omega (arith, c.type_inv.values c.loop-i.i)) c.loop-i.invariant c.put_byte-next.ensures c.put_byte-next.auto.0 c.put_word-next.ensures c.put_word-next.auto.0
+loop-i-preserved c = wrote_more 9 c.requires (omega arith) (omega (arith, c.type_inv.values c.loop-i.i)) c.loop-i.invariant c.put_byte-next.ensures c.put_byte-next.auto.out c.put_word-next.ensures c.put_word-next.auto.out
 
 pub returns : goal.returns
 returns c = wrote_all c.loop-i-test.false c.loop-i.invariant
