@@ -1,8 +1,6 @@
 -- Each turn puts a space and the digits of one value; a value below 1000 has at most three.
-use Prim.Native.Nat.{◌-◌}
 use native.Mathlib.Omega.{arith}
-use lib.ListN.{length}
-use Rattle.lines.proofs.LineLaws.{Wrote, wrote_none, wrote_room, wrote_more, wrote_all}
+use Rattle.lines.proofs.LineLaws.{wrote_none, wrote_room, wrote_more, wrote_all}
 use Rattle.lines.proofs.put_bytes.Goals as goal
 
 pub loop-i-init : goal.loop-i-init

@@ -1,6 +1,5 @@
 -- Five puts, one after the other, are the line: its first value is the length, the others are the bytes.
 use native.Mathlib.Omega.{arith}
-use borrow.Author.Rules.{rules}
 use lib.ListN.{length}
 use Rattle.lines.specs.LineLengths.{decimal_length, spaced_length, below_all}
 use Rattle.lines.proofs.LineLaws.{put_line_of}

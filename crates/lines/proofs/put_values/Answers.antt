@@ -1,8 +1,6 @@
 -- Each turn puts a space and the digits of one value; a value of 32 bits has at most ten.
-use Prim.Native.Nat.{◌-◌}
 use native.Mathlib.Omega.{arith}
-use lib.ListN.{length}
-use Rattle.lines.proofs.LineLaws.{Wrote, wrote_none, wrote_room, wrote_more, wrote_all}
+use Rattle.lines.proofs.LineLaws.{wrote_none, wrote_room, wrote_more, wrote_all}
 use Rattle.lines.proofs.put_values.Goals as goal
 
 pub loop-i-init : goal.loop-i-init

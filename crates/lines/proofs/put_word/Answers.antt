@@ -1,8 +1,7 @@
 -- As many digits as the number has are put, the last one first.
 use mathlib.Core.Path.{◌≡◌, refl, sym, ap, ◌∙◌, subst}
-use Prim.Native.Nat.{◌+◌, ◌-◌, ◌≤◌}
+use Prim.Native.Nat.{◌+◌}
 use native.Mathlib.Omega.{arith}
-use borrow.Author.Rules.{rules}
 use lib.ListN.{length, length-set}
 use Rattle.definition.specs.Lines.{decimal}
 use Rattle.lines.proofs.LineLaws.{decimal_some, put_digit, last_length, Tail, tail_none, tail_more, tail_all}
