@@ -1,5 +1,4 @@
 -- The rows from the slot's first upcall on become what the cancel leaves of them, and so the queue does; where there is none, it is what the cancel leaves.
-use Prim.Native.Nat.{◌<◌}
 use mathlib.Core.Path.{sym, ◌∙◌}
 use native.Mathlib.Omega.{arith}
 use lib.ListN.{length-take, length-drop}
@@ -40,11 +39,10 @@ overflow_sub-n c =
     omega (arith, below)
 
 pub remove-gone-requires : goal.remove-gone-requires
-remove-gone-requires c =
-    (
-      simp (length-take, length-drop) (omega arith),
-      lent_first (is_of c.args.place c.args.number) c.args.run.now _ _ _ (omega arith) (overflow_sub-n c) (sym c.in-At.is ∙ c.first_match.ensures),
-    )
+remove-gone-requires c = (
+  simp (length-take, length-drop) (omega arith),
+  lent_first (is_of c.args.place c.args.number) c.args.run.now _ _ _ (omega arith) (overflow_sub-n c) (sym c.in-At.is ∙ c.first_match.ensures),
+)
 
 pub returns-in-At : goal.returns-in-At
 returns-in-At c =

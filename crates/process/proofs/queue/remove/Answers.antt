@@ -1,5 +1,5 @@
 -- The first row has gone before the loop begins; a row of the slot goes, and another one moves to the front. In the end the rows that are left over are zeroed.
-use Prim.Native.Nat.{◌-◌, ◌≤◌}
+use Prim.Native.Nat.{◌-◌}
 use mathlib.Core.Path.{◌≡◌, refl, sym, ap, subst, ◌∙◌}
 use native.Mathlib.Omega.{arith}
 use lib.ListN.{length}
