@@ -1,5 +1,4 @@
 -- Process by process and driver by driver the tests are the definition's, which asks them test by test.
-use borrow.Author.Rules.{rules}
 use mathlib.Core.Path.{sym, ◌∙◌}
 use Rattle.words.specs.Loops.{first_fails, last_decides}
 use Rattle.board.proofs.BoardLaws.{board_none, board_turns}
