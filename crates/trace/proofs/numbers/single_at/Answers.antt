@@ -7,4 +7,4 @@ pub overflow_cast-byte : goal.overflow_cast-byte
 overflow_cast-byte c = omega (arith, c.type_inv.trace c.args.at)
 
 pub returns : goal.returns
-returns c = N.number_one c.args.most c.args.trace.now c.args.at (omega arith) c.if-byte-ge128.false c.if-byte-most.false
+returns c = N.number_one c.args.most c.args.trace.now c.args.at (omega arith) (omega arith) (omega arith)
