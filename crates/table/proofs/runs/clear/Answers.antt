@@ -1,0 +1,6 @@
+-- The part that was lent has become the words of a cleared process.
+use Rattle.table.specs.Lift.{run_becomes}
+use Rattle.table.proofs.runs.clear.Goals as goal
+
+pub returns : goal.returns
+returns c = run_becomes _ _ c.requires.1 _ _ c.clear.ensures
