@@ -1,6 +1,5 @@
 -- Four puts, one after the other, are the line.
 use native.Mathlib.Omega.{arith}
-use borrow.Author.Rules.{rules}
 use Rattle.lines.specs.LineLengths.{decimal_length}
 use Rattle.lines.proofs.LineLaws.{put_line_of_one}
 use Rattle.lines.proofs.put_broken.Goals as goal

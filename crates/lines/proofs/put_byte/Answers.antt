@@ -1,6 +1,5 @@
 -- One store.
 use native.Mathlib.Omega.{arith}
-use borrow.Author.Rules.{rules}
 use Rattle.lines.proofs.LineLaws.{put_one}
 use Rattle.lines.proofs.put_byte.Goals as goal
 

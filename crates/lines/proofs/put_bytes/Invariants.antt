@@ -1,8 +1,7 @@
 -- The invariant: the values before the i-th are written. The measure is how many are left.
 use Prim.Native.Nat.{◌-◌}
-use native.Mathlib.Omega.{arith}
 use lib.ListN.{length}
-use Rattle.lines.proofs.LineLaws.{Wrote, wrote_none, wrote_room, wrote_more, wrote_all}
+use Rattle.lines.proofs.LineLaws.{Wrote}
 use Rattle.lines.proofs.put_bytes.Given as goal
 
 abbrev pub invariant-loop-i : goal.invariant-loop-i

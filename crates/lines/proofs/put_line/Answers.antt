@@ -1,6 +1,5 @@
 -- Three puts, one after the other, are the line.
 use native.Mathlib.Omega.{arith}
-use borrow.Author.Rules.{rules}
 use Rattle.lines.specs.LineLengths.{spaced_length, below_all}
 use Rattle.lines.proofs.LineLaws.{put_line}
 use Rattle.lines.proofs.put_line.Goals as goal

@@ -1,6 +1,5 @@
 -- Five puts, one after the other, are the line: its first value is the length, the others are the bytes.
 use native.Mathlib.Omega.{arith}
-use borrow.Author.Rules.{rules}
 use lib.ListN.{length}
 use Rattle.lines.specs.LineLengths.{decimal_length, spaced_length, below_all}
 use Rattle.lines.proofs.LineLaws.{put_line_of}
@@ -19,13 +18,13 @@ put_byte-requires c =
       arith,
       c.requires,
       c.put_byte-first.ensures.place,
-      c.put_byte-first.auto.0,
+      c.put_byte-first.auto.out,
       c.put_byte-second.ensures.place,
-      c.put_byte-second.auto.0,
+      c.put_byte-second.auto.out,
       c.put_decimal-third.ensures.place,
-      c.put_decimal-third.auto.0,
+      c.put_decimal-third.auto.out,
       c.put_bytes-next.ensures.place,
-      c.put_bytes-next.auto.0,
+      c.put_bytes-next.auto.out,
       decimal_length 19 (length l) (omega arith),
       spaced_length 2 l (below_all _ l (λ i. omega (arith, c.type_inv.bytes i))),
     )

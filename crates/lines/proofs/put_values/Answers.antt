@@ -1,17 +1,16 @@
-use Prim.Native.Nat.{◌-◌}
+-- Each turn puts a space and the digits of one value; a value of 32 bits has at most ten.
 use native.Mathlib.Omega.{arith}
-use lib.ListN.{length}
-use Rattle.lines.proofs.LineLaws.{Wrote, wrote_none, wrote_room, wrote_more, wrote_all}
+use Rattle.lines.proofs.LineLaws.{wrote_none, wrote_room, wrote_more, wrote_all}
 use Rattle.lines.proofs.put_values.Goals as goal
 
 pub loop-i-init : goal.loop-i-init
 loop-i-init c = wrote_none
 
 pub put_word-next-requires : goal.put_word-next-requires
-put_word-next-requires c = wrote_room 9 c.requires (omega arith) (omega (arith, c.type_inv.values c.loop-i.i)) c.loop-i.invariant c.put_byte-next.ensures c.put_byte-next.auto.0
+put_word-next-requires c = wrote_room 9 c.requires (omega arith) (omega (arith, c.type_inv.values c.loop-i.i)) c.loop-i.invariant c.put_byte-next.ensures c.put_byte-next.auto.out
 
 pub loop-i-preserved : goal.loop-i-preserved
-loop-i-preserved c = wrote_more 9 c.requires (omega arith) (omega (arith, c.type_inv.values c.loop-i.i)) c.loop-i.invariant c.put_byte-next.ensures c.put_byte-next.auto.0 c.put_word-next.ensures c.put_word-next.auto.0
+loop-i-preserved c = wrote_more 9 c.requires (omega arith) (omega (arith, c.type_inv.values c.loop-i.i)) c.loop-i.invariant c.put_byte-next.ensures c.put_byte-next.auto.out c.put_word-next.ensures c.put_word-next.auto.out
 
 pub returns : goal.returns
 returns c = wrote_all c.loop-i-test.false c.loop-i.invariant

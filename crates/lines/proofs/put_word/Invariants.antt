@@ -1,11 +1,9 @@
 -- The invariant: from i on the digits are there, and those before it are those of what is left. The measure is how many are to be put.
-use mathlib.Core.Path.{◌≡◌, refl, sym, ap, ◌∙◌, subst}
-use Prim.Native.Nat.{◌+◌, ◌-◌, ◌≤◌}
-use native.Mathlib.Omega.{arith}
-use borrow.Author.Rules.{rules}
-use lib.ListN.{length, length-set}
+use mathlib.Core.Path.{◌≡◌}
+use Prim.Native.Nat.{◌-◌, ◌≤◌}
+use lib.ListN.{length}
 use Rattle.definition.specs.Lines.{decimal}
-use Rattle.lines.proofs.LineLaws.{decimal_some, put_digit, last_length, Tail, tail_none, tail_more, tail_all}
+use Rattle.lines.proofs.LineLaws.{Tail}
 use Rattle.lines.proofs.put_word.Given as goal
 
 abbrev pub invariant-loop-i : goal.invariant-loop-i

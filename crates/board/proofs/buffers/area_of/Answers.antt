@@ -1,7 +1,6 @@
 -- Each answer has the numbers of its area, and a buffer with the numbers of an area lies there.
 use mathlib.Core.Path.{sym, ◌∙◌}
 use native.Mathlib.Omega.{arith}
-use borrow.Author.Rules.{rules}
 use Rattle.definition.specs.Area.{empty, in_ram, in_flash, outside}
 use Rattle.laws.specs.Facts.{within_true, within_false}
 use Rattle.laws.specs.Areas.{lies_area}

@@ -1,6 +1,5 @@
 -- In RAM the buffer's end decides; nowhere else does it stop a break.
 use mathlib.Core.Path.{refl}
-use borrow.Author.Rules.{rules}
 use Rattle.board.proofs.BufferLaws.{clears_found}
 use Rattle.board.proofs.buffers.clears.Goals as goal
 

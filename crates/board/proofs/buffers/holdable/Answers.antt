@@ -1,6 +1,5 @@
 -- Each kind has its own test; both tests of buffers ask for the area.
 use mathlib.Core.Path.{ap, ◌∙◌}
-use borrow.Author.Rules.{rules}
 use Rattle.definition.specs.Board.{read_write, read_only}
 use Rattle.definition.specs.Area.{accessible, holdable}
 use Rattle.board.proofs.BufferLaws.{kind_found}

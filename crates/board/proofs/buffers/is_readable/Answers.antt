@@ -1,6 +1,5 @@
 -- By the area that the match found.
 use mathlib.Core.Path.{refl}
-use borrow.Author.Rules.{rules}
 use Rattle.definition.specs.Board.{read_only}
 use Rattle.definition.specs.Area.{accessible}
 use Rattle.board.proofs.BufferLaws.{area_found}

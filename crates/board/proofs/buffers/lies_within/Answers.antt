@@ -1,5 +1,4 @@
 -- Two tests; the sum of two 32-bit words fits in 64 bits.
-use borrow.Author.Rules.{rules}
 use borrow.Author.Tests.{le-leb, lt-leb}
 use mathlib.Core.Path.{refl}
 use Rattle.definition.specs.Tests.{within}

@@ -1,9 +1,8 @@
-use mathlib.Core.Path.{◌≡◌, refl, sym, ap, ◌∙◌}
+-- A driver with the same number is the first that stops the test; with none, every turn holds.
+use mathlib.Core.Path.{refl, sym, ap, ◌∙◌}
 use mathlib.Core.Bool.{true, false}
-use Prim.Native.Nat.{◌+◌, ◌-◌, ◌*◌, ◌≤◌}
+use Prim.Native.Nat.{◌+◌, ◌*◌}
 use native.Mathlib.Omega.{arith}
-use lib.ListN.{get_or}
-use Rattle.definition.specs.Tests.{every_below}
 use Rattle.definition.specs.Limits.{driver_words}
 use Rattle.definition.specs.Image.{read_driver, board_at}
 use Rattle.words.specs.Loops.{below_none, below_stop, below_more, below_done}

@@ -1,16 +1,12 @@
 -- The invariant: every driver below i has another number than driver k.
-use mathlib.Core.Path.{◌≡◌, refl, sym, ap, ◌∙◌}
-use mathlib.Core.Bool.{true, false}
+use mathlib.Core.Path.{◌≡◌}
+use mathlib.Core.Bool.{true}
 use Prim.Native.Nat.{◌+◌, ◌-◌, ◌*◌, ◌≤◌}
-use native.Mathlib.Omega.{arith}
 use lib.ListN.{get_or}
 use Rattle.definition.specs.Tests.{every_below}
 use Rattle.definition.specs.Limits.{driver_words}
-use Rattle.definition.specs.Image.{read_driver, board_at}
-use Rattle.words.specs.Loops.{below_none, below_stop, below_more, below_done}
+use Rattle.definition.specs.Image.{board_at}
 use Rattle.board.specs.Boards.{differs_from}
-use Rattle.laws.specs.Reads.{driver_read}
-use Rattle.board.proofs.BoardLaws.{number_same, number_differs}
 use Rattle.board.proofs.checks.differs_from.Given as goal
 
 abbrev pub invariant-loop-i : goal.invariant-loop-i

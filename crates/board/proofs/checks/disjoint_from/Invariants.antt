@@ -1,16 +1,12 @@
 -- The invariant: every process below i stands apart from this one.
-use mathlib.Core.Path.{◌≡◌, refl, sym, ◌∙◌}
-use mathlib.Core.Bool.{true, false}
+use mathlib.Core.Path.{◌≡◌}
+use mathlib.Core.Bool.{true}
 use Prim.Native.Nat.{◌+◌, ◌-◌, ◌*◌, ◌≤◌}
-use native.Mathlib.Omega.{arith}
 use Rattle.definition.specs.Tests.{every_below}
 use Rattle.definition.specs.Limits.{areas_words}
 use Rattle.definition.specs.Image.{areas_from, read_areas, board_at}
-use Rattle.words.specs.Loops.{below_none, below_stop, below_more, below_done}
 use Rattle.board.specs.Meaning.{areas_of}
 use Rattle.board.specs.Boards.{apart_from}
-use Rattle.laws.specs.Reads.{areas_read}
-use Rattle.board.proofs.BoardLaws.{ram_fails, flash_fails, apart_holds}
 use Rattle.board.proofs.checks.disjoint_from.Given as goal
 
 abbrev pub invariant-loop-i : goal.invariant-loop-i

@@ -1,10 +1,10 @@
-use mathlib.Core.Path.{◌≡◌, refl, sym, ap, ◌∙◌}
+-- A driver that is not good, or whose number stands before it, stops the test; else the turn holds.
+use mathlib.Core.Path.{refl, sym, ap, ◌∙◌}
 use mathlib.Core.Bool.{true, false}
-use Prim.Native.Nat.{◌-◌, ◌≤◌, ◌<◌}
+use Prim.Native.Nat.{◌<◌}
 use native.Mathlib.Omega.{arith}
 use lib.ListN.{get_or}
 use Rattle.definition.specs.Image.{board_at}
-use Rattle.definition.specs.Tests.{every_below}
 use Rattle.definition.specs.Board.{good_driver}
 use Rattle.words.specs.Loops.{below_none, below_stop, below_more, below_done}
 use Rattle.board.specs.Boards.{good_driver_at}

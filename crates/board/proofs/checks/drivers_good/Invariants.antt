@@ -1,16 +1,11 @@
 -- The invariant: every driver below k is good, and has another number than those before it.
-use mathlib.Core.Path.{◌≡◌, refl, sym, ap, ◌∙◌}
-use mathlib.Core.Bool.{true, false}
-use Prim.Native.Nat.{◌-◌, ◌≤◌, ◌<◌}
-use native.Mathlib.Omega.{arith}
+use mathlib.Core.Path.{◌≡◌}
+use mathlib.Core.Bool.{true}
+use Prim.Native.Nat.{◌-◌, ◌≤◌}
 use lib.ListN.{get_or}
 use Rattle.definition.specs.Image.{board_at}
 use Rattle.definition.specs.Tests.{every_below}
-use Rattle.definition.specs.Board.{good_driver}
-use Rattle.words.specs.Loops.{below_none, below_stop, below_more, below_done}
 use Rattle.board.specs.Boards.{good_driver_at}
-use Rattle.laws.specs.Reads.{driver_read}
-use Rattle.board.proofs.BoardLaws.{one_fails, two_fails, two_hold}
 use Rattle.board.proofs.checks.drivers_good.Given as goal
 
 abbrev pub invariant-loop-k : goal.invariant-loop-k

@@ -1,5 +1,4 @@
 -- A test that fails is enough; where the first nine hold, the permissions decide.
-use borrow.Author.Rules.{rules}
 use borrow.Author.Tests.{le-leb, lt-leb, lt-ltb, le-ltb}
 use Rattle.definition.specs.Board.{good_areas}
 use Rattle.words.specs.Loops.{some_fails, all_next, all_last}

@@ -1,5 +1,4 @@
 -- Each early answer is that of a test that fails: the length does not fit the counts, or a count is over its limit.
-use borrow.Author.Rules.{rules}
 use mathlib.Core.Path.{◌≡◌, refl}
 use Prim.Native.Nat.{ℕ, ◌+◌, ◌*◌, ◌<◌}
 use native.Mathlib.Omega.{arith}

@@ -1,5 +1,4 @@
 -- A test that fails is enough; where the first three hold, the last decides.
-use borrow.Author.Rules.{rules}
 use borrow.Author.Tests.{le-leb, lt-leb}
 use mathlib.Core.Path.{refl}
 use Rattle.definition.specs.Board.{good_driver}

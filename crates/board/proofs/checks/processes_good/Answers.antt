@@ -1,10 +1,10 @@
-use mathlib.Core.Path.{◌≡◌, refl, sym, ◌∙◌}
+-- A process whose areas are not good, or overlap those before it, stops the test; else the turn holds.
+use mathlib.Core.Path.{refl, sym, ◌∙◌}
 use mathlib.Core.Bool.{true, false}
-use Prim.Native.Nat.{◌-◌, ◌≤◌, ◌<◌}
+use Prim.Native.Nat.{◌<◌}
 use native.Mathlib.Omega.{arith}
 use lib.ListN.{get_or}
 use Rattle.definition.specs.Image.{board_at}
-use Rattle.definition.specs.Tests.{every_below}
 use Rattle.words.specs.Loops.{below_none, below_stop, below_more, below_done}
 use Rattle.board.specs.Boards.{good_process_at}
 use Rattle.laws.specs.Reads.{areas_read}

@@ -1,15 +1,11 @@
 -- The invariant: every process below p has good areas, apart from those before it.
-use mathlib.Core.Path.{◌≡◌, refl, sym, ◌∙◌}
-use mathlib.Core.Bool.{true, false}
-use Prim.Native.Nat.{◌-◌, ◌≤◌, ◌<◌}
-use native.Mathlib.Omega.{arith}
+use mathlib.Core.Path.{◌≡◌}
+use mathlib.Core.Bool.{true}
+use Prim.Native.Nat.{◌-◌, ◌≤◌}
 use lib.ListN.{get_or}
 use Rattle.definition.specs.Image.{board_at}
 use Rattle.definition.specs.Tests.{every_below}
-use Rattle.words.specs.Loops.{below_none, below_stop, below_more, below_done}
 use Rattle.board.specs.Boards.{good_process_at}
-use Rattle.laws.specs.Reads.{areas_read}
-use Rattle.board.proofs.BoardLaws.{good_so, one_fails, two_fails, two_hold}
 use Rattle.board.proofs.checks.processes_good.Given as goal
 
 abbrev pub invariant-loop-p : goal.invariant-loop-p

@@ -1,5 +1,4 @@
 -- A shift by fewer than 32 places loses no bit.
-use borrow.Author.Rules.{rules}
 use Rattle.board.proofs.BoardLaws.{bit_exact}
 use Rattle.board.proofs.reads.bit.Goals as goal
 

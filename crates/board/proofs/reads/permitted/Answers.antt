@@ -1,5 +1,4 @@
 -- The divisor is a power of two, so not zero, and the bit that it picks is the definition's.
-use borrow.Author.Rules.{rules}
 use Rattle.definition.specs.Board.{permits}
 use Rattle.board.proofs.BoardLaws.{bit_some, bit_test}
 use Rattle.board.proofs.reads.permitted.Goals as goal

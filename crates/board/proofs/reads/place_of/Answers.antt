@@ -1,8 +1,8 @@
-use mathlib.Core.Path.{◌≡◌}
-use Prim.Native.Nat.{◌-◌, ◌≤◌, ◌<◌}
+-- A driver with the number is the first, as none below it has it; if none has it, the place is past the last one.
+use Prim.Native.Nat.{◌<◌}
 use native.Mathlib.Omega.{arith}
 use lib.ListN.{get_or}
-use Rattle.board.proofs.BoardLaws.{NoneBelow, place_found, place_none, none_more}
+use Rattle.board.proofs.BoardLaws.{place_found, place_none, none_more}
 use Rattle.board.proofs.reads.place_of.Goals as goal
 
 pub loop-k-init : goal.loop-k-init

@@ -1,9 +1,8 @@
 -- The invariant: no driver below k has the number.
 use mathlib.Core.Path.{◌≡◌}
-use Prim.Native.Nat.{◌-◌, ◌≤◌, ◌<◌}
-use native.Mathlib.Omega.{arith}
+use Prim.Native.Nat.{◌-◌, ◌≤◌}
 use lib.ListN.{get_or}
-use Rattle.board.proofs.BoardLaws.{NoneBelow, place_found, place_none, none_more}
+use Rattle.board.proofs.BoardLaws.{NoneBelow}
 use Rattle.board.proofs.reads.place_of.Given as goal
 
 abbrev pub invariant-loop-k : goal.invariant-loop-k

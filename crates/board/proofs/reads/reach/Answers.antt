@@ -1,5 +1,4 @@
 -- Each return is one outcome of the two tests: the driver is at a place of the board, and the process's bit for it is set.
-use borrow.Author.Rules.{rules}
 use Rattle.board.specs.Meaning.{areas_of}
 use Rattle.board.proofs.BoardLaws.{reach_uninstalled, reach_denied, reach_found}
 use Rattle.board.proofs.reads.reach.Goals as goal

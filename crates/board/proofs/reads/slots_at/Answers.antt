@@ -1,5 +1,4 @@
 -- Each kind has its own word of the driver.
-use borrow.Author.Rules.{rules}
 use Rattle.definition.specs.Board.{slots_of}
 use Rattle.board.proofs.reads.slots_at.Goals as goal
 

@@ -1,5 +1,4 @@
 -- The count tells whether the queue is empty: then nothing goes, and otherwise its first upcall does.
-use borrow.Author.Rules.{rules}
 use Rattle.process.proofs.EffectLaws.{nothing_taken, nothing_delivered, something_queued, something_delivered}
 use Rattle.process.proofs.effects.deliver.Goals as goal
 

@@ -1,6 +1,5 @@
 -- The exchange puts the pair into its slot, and what the found kind does with the queue comes after it.
 use native.Mathlib.Omega.{arith}
-use borrow.Author.Rules.{rules}
 use Rattle.laws.specs.Slots.{slot_bound}
 use Rattle.types.specs.Meaning.{kind_of}
 use Rattle.process.specs.RunLaws.{held_after, sized_slots}

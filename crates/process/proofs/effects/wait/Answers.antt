@@ -1,5 +1,4 @@
 -- The count tells whether the queue is empty: then the status alone changes, and otherwise the delivery follows.
-use borrow.Author.Rules.{rules}
 use Rattle.process.specs.RunLaws.{held_after, sized_status}
 use Rattle.process.proofs.EffectLaws.{then_does, then_gives, nothing_delivered, nothing_waits, something_runs}
 use Rattle.process.proofs.effects.wait.Goals as goal
@@ -11,8 +10,7 @@ pub deliver-requires : goal.deliver-requires
 deliver-requires c = held_after _ _ _ (sized_status _) c.requires c.set_status-2.ensures
 
 pub returns : goal.returns
-returns c =
-    (
-      something_runs _ _ c.queued.ensures c.if-queued-eq0.false _ (then_does _ _ _ (sized_status _) c.set_status-2.ensures _ _ c.deliver.ensures.0),
-      then_gives _ _ _ (sized_status _) c.set_status-2.ensures _ _ c.deliver.ensures.1,
-    )
+returns c = (
+  something_runs _ _ c.queued.ensures c.if-queued-eq0.false _ (then_does _ _ _ (sized_status _) c.set_status-2.ensures _ _ c.deliver.ensures.0),
+  then_gives _ _ _ (sized_status _) c.set_status-2.ensures _ _ c.deliver.ensures.1,
+)

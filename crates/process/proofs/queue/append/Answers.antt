@@ -1,5 +1,4 @@
 -- The row after the last is the upcall's, and the count is one more.
-use borrow.Author.Rules.{rules}
 use Rattle.process.proofs.QueueLaws.{append_does}
 use Rattle.process.proofs.queue.append.Goals as goal
 

@@ -1,7 +1,6 @@
-use Prim.Native.Nat.{◌-◌, ◌≤◌}
+-- The rows are looked at from the first on: none before the next one is of the slot, so the first that is of it is the first of all.
 use native.Mathlib.Omega.{arith}
-use Rattle.process.specs.QueueRows.{upcalls_in}
-use Rattle.process.specs.FirstMatch.{is_of, NoneBelow}
+use Rattle.process.specs.FirstMatch.{is_of}
 use Rattle.process.proofs.SearchLaws.{none_further, found, found_none}
 use Rattle.process.proofs.queue.first_match.Goals as goal
 

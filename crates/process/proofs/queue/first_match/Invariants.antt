@@ -1,9 +1,7 @@
 -- The invariant: none of the first i rows is of the slot. The measure is what is left.
 use Prim.Native.Nat.{◌-◌, ◌≤◌}
-use native.Mathlib.Omega.{arith}
 use Rattle.process.specs.QueueRows.{upcalls_in}
 use Rattle.process.specs.FirstMatch.{is_of, NoneBelow}
-use Rattle.process.proofs.SearchLaws.{none_further, found, found_none}
 use Rattle.process.proofs.queue.first_match.Given as goal
 
 abbrev pub invariant-loop-i : goal.invariant-loop-i

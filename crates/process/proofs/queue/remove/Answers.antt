@@ -1,12 +1,13 @@
-use Prim.Native.Nat.{◌-◌, ◌≤◌}
+-- The first row has gone before the loop begins; a row of the slot goes, and another one moves to the front. In the end the rows that are left over are zeroed.
+use Prim.Native.Nat.{◌-◌}
 use mathlib.Core.Path.{◌≡◌, refl, sym, ap, subst, ◌∙◌}
-use mathlib.Core.Logic.{⊎_elim}
 use native.Mathlib.Omega.{arith}
 use lib.ListN.{length}
 use Rattle.process.specs.FirstMatch.{is_of}
 use Rattle.process.proofs.CancelLaws.{Kept, kept_goes, kept_stays, keeps}
 use Rattle.process.proofs.SearchLaws.{kept_first}
 use Rattle.process.proofs.queue.remove.Goals as goal
+use Rattle.process.proofs.queue.remove.Goals.{then-is_of, else-is_of}
 
 pub loop-next-init : goal.loop-next-init
 loop-next-init c =
@@ -15,14 +16,14 @@ loop-next-init c =
 
 pub loop-next-preserved : goal.loop-next-preserved
 loop-next-preserved c =
-    let inv = c.loop-next.invariant.3 in
-    ⊎_elim
-    (λ w. (omega arith, omega arith, omega (arith, ap length w.1), kept_goes _ _ _ _ _ _ inv (omega arith) _ refl _ _ (sym c.is_of.ensures ∙ w.0.taken) (omega (arith, w.2)) w.1))
-    (λ w.
-    let read = w.2.ensures in
-    let other = ap (is_of c.args.place c.args.number) read ∙ sym c.is_of.ensures ∙ w.0.left in
-    (omega arith, omega arith, omega (arith, ap length w.7), kept_stays _ _ _ _ _ _ inv (omega arith) _ read _ _ (omega arith) (omega arith) other (omega (arith, w.8)) (w.7 ∙ w.4.ensures)))
-    c.if-is_of.branch
+    elim c.if-is_of.branch [
+      | then-is_of w ↦
+          (omega arith, omega arith, ap length w.rows-is ∙ c.loop-next.invariant.2, kept_goes _ _ _ _ _ _ c.loop-next.invariant.3 (omega arith) _ refl _ _ (sym c.is_of.ensures ∙ w.if-is_of.true) (omega arith) w.rows-is)
+      | else-is_of w ↦
+          let read = w.upcall_at-upcall.ensures in
+          let other = ap (is_of c.args.place c.args.number) read ∙ sym c.is_of.ensures ∙ w.if-is_of.false in
+          (omega arith, omega arith, omega (arith, ap length w.rows-is), kept_stays _ _ _ _ _ _ c.loop-next.invariant.3 (omega arith) _ read _ _ (omega arith) (omega arith) other (omega arith) (w.rows-is ∙ w.put_upcall.ensures))
+    ]
 
 pub returns : goal.returns
 returns c =

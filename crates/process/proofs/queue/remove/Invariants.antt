@@ -1,12 +1,8 @@
 -- The invariant: of the rows before the next one those of other slots stand in front, and the rows from it on are as they were. The measure is what is left.
 use Prim.Native.Nat.{◌-◌, ◌≤◌}
-use mathlib.Core.Path.{◌≡◌, refl, sym, ap, subst, ◌∙◌}
-use mathlib.Core.Logic.{⊎_elim}
-use native.Mathlib.Omega.{arith}
+use mathlib.Core.Path.{◌≡◌}
 use lib.ListN.{length}
-use Rattle.process.specs.FirstMatch.{is_of}
-use Rattle.process.proofs.CancelLaws.{Kept, kept_goes, kept_stays, keeps}
-use Rattle.process.proofs.SearchLaws.{kept_first}
+use Rattle.process.proofs.CancelLaws.{Kept}
 use Rattle.process.proofs.queue.remove.Given as goal
 
 abbrev pub invariant-loop-next : goal.invariant-loop-next

@@ -1,5 +1,4 @@
 -- The queue's words, moved to the left by a row, are those of its tail, and the count is one less.
-use borrow.Author.Rules.{rules}
 use Rattle.process.proofs.QueueLaws.{take_first_does}
 use Rattle.process.proofs.queue.take_first.Goals as goal
 

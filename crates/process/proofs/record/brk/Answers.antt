@@ -1,5 +1,4 @@
 -- The break is the word that the process reads as its break.
-use borrow.Author.Rules.{rules}
 use Rattle.process.proofs.RecordLaws.{break_gives}
 use Rattle.process.proofs.record.brk.Goals as goal
 

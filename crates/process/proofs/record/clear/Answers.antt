@@ -1,5 +1,4 @@
 -- A run of zeros is a record with nothing in it, and then its status and break are set.
-use borrow.Author.Rules.{rules}
 use Rattle.process.proofs.RecordLaws.{clear_does}
 use Rattle.process.proofs.record.clear.Goals as goal
 

@@ -1,5 +1,4 @@
 -- The words of a process with a new break differ in the second word only.
-use borrow.Author.Rules.{rules}
 use Rattle.process.proofs.RecordLaws.{break_does}
 use Rattle.process.proofs.record.set_break.Goals as goal
 

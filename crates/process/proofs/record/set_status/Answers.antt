@@ -1,5 +1,4 @@
 -- The words of a process with a new status differ in the first word only.
-use borrow.Author.Rules.{rules}
 use Rattle.types.specs.Meaning.{status_of}
 use Rattle.process.proofs.RecordLaws.{status_does}
 use Rattle.process.proofs.record.set_status.Goals as goal

@@ -1,6 +1,5 @@
 -- The first word reads as running at 0, as waiting at 1, and as exited past that.
 use mathlib.Core.Path.{sym, ap}
-use borrow.Author.Rules.{rules}
 use Rattle.definition.specs.Image.{status_of}
 use Rattle.process.proofs.RecordLaws.{status_gives, past_waiting}
 use Rattle.process.proofs.record.status.Goals as goal

@@ -1,5 +1,4 @@
 -- The pair's two words go over those of the slot; what stood there was read before.
-use borrow.Author.Rules.{rules}
 use Rattle.types.specs.Meaning.{pair_of}
 use Rattle.process.specs.RunLaws.{gives}
 use Rattle.process.proofs.SlotLaws.{slot_does}

@@ -1,5 +1,4 @@
 -- The two words at a slot's place are the pair that the process reads there.
-use borrow.Author.Rules.{rules}
 use Rattle.laws.specs.Reads.{slot_read}
 use Rattle.process.proofs.slots.held.Goals as goal
 

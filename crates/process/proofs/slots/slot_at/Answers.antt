@@ -1,6 +1,5 @@
 -- A kind's number is below 3, so nothing wraps.
 use native.Mathlib.Omega.{arith}
-use borrow.Author.Rules.{rules}
 use Rattle.definition.specs.State.{slot_at}
 use Rattle.types.specs.Meaning.{kind_of}
 use Rattle.laws.specs.Slots.{kind_bound}

@@ -2,7 +2,6 @@
 use mathlib.Core.Bool.{and-false}
 use Prim.Native.Nat.{◌-◌}
 use native.Mathlib.Omega.{arith}
-use borrow.Author.Rules.{rules}
 use borrow.Author.Tests.{lt-ltb, le-ltb, le-leb, lt-leb}
 use Rattle.definition.specs.Tests.{if◌then◌else◌}
 use Rattle.definition.specs.Trace.{group}

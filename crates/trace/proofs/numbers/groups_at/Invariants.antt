@@ -1,11 +1,7 @@
 -- The invariant: what is read from here, after the groups so far, is what is read of the whole.
-use mathlib.Core.Path.{◌≡◌, refl, sym, ap, subst, ◌∙◌}
-use Prim.Native.Nat.{◌+◌, ◌-◌, ◌≤◌, ◌^◌}
-use native.Mathlib.Omega.{arith}
+use mathlib.Core.Path.{◌≡◌}
+use Prim.Native.Nat.{◌+◌, ◌≤◌, ◌^◌}
 use Rattle.definition.specs.Trace.{groups, number, read_at}
-use Rattle.trace.specs.Meaning.{group_of, leaves_room, number_found}
-use Rattle.trace.specs.declared.numbers.Group.{Group}
-use Rattle.trace.proofs.NumberLaws as N
 use Rattle.trace.proofs.numbers.groups_at.Given as goal
 
 abbrev pub invariant-loop-left : goal.invariant-loop-left

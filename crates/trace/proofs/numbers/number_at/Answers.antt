@@ -1,6 +1,5 @@
 -- One byte tells the number, or it is read group by group.
 use native.Mathlib.Omega.{arith}
-use borrow.Author.Rules.{rules}
 use Rattle.trace.proofs.NumberLaws as N
 use Rattle.trace.proofs.numbers.number_at.Goals as goal
 

@@ -1,7 +1,5 @@
 -- Each answer is one law of what follows a kind, from what was filled and how many bytes follow.
 use mathlib.Core.Path.{sym, ap}
-use native.Mathlib.Omega.{arith}
-use borrow.Author.Rules.{rules}
 use Rattle.trace.specs.Meaning.{record_found}
 use Rattle.trace.proofs.RecordLaws.{kind_on, kind_end, kind_record, kind_short}
 use Rattle.trace.proofs.records.after_kind.Goals as goal

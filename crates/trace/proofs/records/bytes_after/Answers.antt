@@ -7,8 +7,8 @@ use Rattle.trace.proofs.records.bytes_after.Goals as goal
 
 pub returns-then-kind-eq-DEPOSIT : goal.returns-then-kind-eq-DEPOSIT
 unfolding bytes_after if◌then◌else◌
-returns-then-kind-eq-DEPOSIT c = simp (eq-eqb _ _ c.if-kind-eq-DEPOSIT.true) (sym e)
+returns-then-kind-eq-DEPOSIT c l e = simp (eq-eqb _ _ c.if-kind-eq-DEPOSIT.true) (sym e)
 
 pub returns-else-kind-eq-DEPOSIT : goal.returns-else-kind-eq-DEPOSIT
 unfolding bytes_after if◌then◌else◌
-returns-else-kind-eq-DEPOSIT c = simp (ne_eqb _ _ c.if-kind-eq-DEPOSIT.false)
+returns-else-kind-eq-DEPOSIT c l e = simp (ne_eqb _ _ c.if-kind-eq-DEPOSIT.false)

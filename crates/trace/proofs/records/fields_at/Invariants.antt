@@ -1,13 +1,6 @@
 -- The invariant: the fields so far stand at the front of `out`, and what is read from here is what is read of the whole.
-use mathlib.Core.Path.{◌≡◌, refl, sym, ◌∙◌}
-use mathlib.Core.Logic.{⊎_elim}
 use Prim.Native.Nat.{◌-◌}
-use native.Mathlib.Omega.{arith}
-use borrow.Author.Rules.{rules}
-use lib.ListN.{length, get_or}
-use Rattle.definition.specs.Trace.{number, read_at}
-use Rattle.trace.specs.Meaning.{number_found}
-use Rattle.trace.proofs.NumberLaws as N
+use lib.ListN.{length}
 use Rattle.trace.proofs.FieldLaws as L
 use Rattle.trace.proofs.records.fields_at.Given as goal
 

@@ -1,6 +1,5 @@
 -- A kind that was found is at most the last, and the place after it is in the trace.
 use mathlib.Core.Path.{sym, ap, ◌∙◌}
-use borrow.Author.Rules.{rules}
 use Rattle.definition.specs.Trace.{last_kind}
 use Rattle.trace.specs.Meaning.{record_found}
 use Rattle.trace.specs.TraceLaws.{number_most, number_end}
