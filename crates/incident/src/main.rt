@@ -8,54 +8,53 @@
 
 #![tactic(auto)]
 
-use libc::STDOUT_FILENO;
+use std::io;
 use table::Table;
 use types::{Answer, Driver, Image, Process, Registers};
 
-fn print(text: &[u8]) {
-    io::write_all(STDOUT_FILENO, text);
+fn print(output: &impl Print, text: &str) -> io::Result<()> {
+    output.print(text)
 }
 
-fn print_number(n: u64) {
-    print(b" ");
-    io::print_decimal(STDOUT_FILENO, n);
+fn print_number(output: &impl Print, n: u64) -> io::Result<()> {
+    print!(output; " {n}")
 }
 
-fn print_byte(byte: u8) {
-    print_number(byte as u64);
+fn print_byte(output: &impl Print, byte: u8) -> io::Result<()> {
+    print_number(output, byte as u64)
 }
 
 // An answer, as a line of document 01.
-fn print_answer(answer: Answer) {
+fn print_answer(output: &impl Print, answer: Answer) -> io::Result<()> {
     match answer {
         Answer::Refused(n) => {
-            print(b"X");
-            print_number(n as u64);
+            print(output, "X")?;
+            print_number(output, n as u64)?;
         }
         Answer::Registers(r0, r1, r2, r3) => {
-            print(b"A");
-            print_number(r0 as u64);
-            print_number(r1 as u64);
-            print_number(r2 as u64);
-            print_number(r3 as u64);
+            print(output, "A")?;
+            print_number(output, r0 as u64)?;
+            print_number(output, r1 as u64)?;
+            print_number(output, r2 as u64)?;
+            print_number(output, r3 as u64)?;
         }
-        Answer::Deposited => print(b"D"),
-        Answer::Started => print(b"started"),
-        _ => print(b"other"),
+        Answer::Deposited => print(output, "D")?,
+        Answer::Started => print(output, "started")?,
+        _ => print(output, "other")?,
     }
-    print(b"\n");
+    print(output, "\n")
 }
 
 // The bytes of a fetch, as a line of document 01.
-fn print_part(bytes: &[u8]) {
-    print(b"F");
-    print_number(bytes.len() as u64);
+fn print_part(output: &impl Print, bytes: &[u8]) -> io::Result<()> {
+    print(output, "F")?;
+    print_number(output, bytes.len() as u64)?;
     let mut i = 0;
     while i < bytes.len() {
-        print_byte(bytes[i]);
+        print_byte(output, bytes[i])?;
         i += 1;
     }
-    print(b"\n");
+    print(output, "\n")
 }
 
 // How many of the bytes are not zero.
@@ -64,7 +63,7 @@ fn written(bytes: &[u8]) -> u64 {
     let mut i = 0;
     while i < bytes.len() {
         if bytes[i] != 0 {
-            n = std::num::wrapping_add_u64(n, 1);
+            n = n.wrapping_add(1);
         }
         i += 1;
     }
@@ -73,29 +72,50 @@ fn written(bytes: &[u8]) -> u64 {
 
 // An allow of slot 0 of driver 1: class 3 is read-write, class 4 read-only.
 fn allow(
+    output: &impl Print,
     table: &mut [u32],
     memory: &mut [u8],
     process: Process,
     class: u8,
     address: u32,
     size: u32,
-) {
+) -> io::Result<()> {
     let registers = Registers {
         r0: 1,
         r1: 0,
         r2: address,
         r3: size,
     };
-    print_answer(bridge::call(table, memory, process, class, registers));
+    print_answer(
+        output,
+        bridge::call(table, memory, process, class, registers),
+    )
 }
 
 // A deposit into the read-write buffer of that slot.
-fn deposit(table: &[u32], memory: &mut [u8], process: Process, offset: u32, bytes: &[u8]) {
-    print_answer(bridge::deposit(table, memory, process, Driver(1), 0, offset, bytes));
+fn deposit(
+    output: &impl Print,
+    table: &[u32],
+    memory: &mut [u8],
+    process: Process,
+    offset: u32,
+    bytes: &[u8],
+) -> io::Result<()> {
+    print_answer(
+        output,
+        bridge::deposit(table, memory, process, Driver(1), 0, offset, bytes),
+    )
 }
 
 // A fetch of four bytes of its read-only buffer, which are read where they lie.
-fn fetch<'a>(table: &[u32], memory: &'a [u8], flash: &'a [u8], process: Process, offset: u32) {
+fn fetch<'a>(
+    output: &impl Print,
+    table: &[u32],
+    memory: &'a [u8],
+    flash: &'a [u8],
+    process: Process,
+    offset: u32,
+) -> io::Result<()> {
     let mut number = 0u32;
     let part = bridge::fetch(
         table,
@@ -109,14 +129,21 @@ fn fetch<'a>(table: &[u32], memory: &'a [u8], flash: &'a [u8], process: Process,
         &mut number,
     );
     if number == 0 {
-        print_part(part);
+        print_part(output, part)
     } else {
-        print_answer(Answer::Refused(number));
+        print_answer(output, Answer::Refused(number))
     }
 }
 
 // The same fetch, told by where those bytes lie.
-fn locate(table: &[u32], memory: &[u8], flash: &[u8], process: Process, offset: u32) {
+fn locate(
+    output: &impl Print,
+    table: &[u32],
+    memory: &[u8],
+    flash: &[u8],
+    process: Process,
+    offset: u32,
+) -> io::Result<()> {
     let mut number = 0u32;
     let part = bridge::fetch_place(
         table,
@@ -131,16 +158,16 @@ fn locate(table: &[u32], memory: &[u8], flash: &[u8], process: Process, offset: 
     );
     let image = part.image;
     match image {
-        Image::Memory => print(b"in the memory image from byte"),
-        Image::Flash => print(b"in the flash image from byte"),
+        Image::Memory => print(output, "in the memory image from byte")?,
+        Image::Flash => print(output, "in the flash image from byte")?,
     }
-    print_number(part.place as u64);
-    print(b", with number");
-    print_number(number as u64);
-    print(b"\n");
+    print_number(output, part.place as u64)?;
+    print(output, ", with number")?;
+    print_number(output, number as u64)?;
+    print(output, "\n")
 }
 
-fn main() {
+fn main(rt: HostRuntime) -> io::Result<()> {
     // Document 01's board: two processes, each with 8 KiB of RAM and 16 KiB of flash, and two drivers.
     let board = [
         2,
@@ -174,33 +201,58 @@ fn main() {
     let mut memory = [0u8; Image::BYTES];
     let flash = [0u8; Image::BYTES];
     let data = [71, 80, 83, 33];
+    let output = rt.stdout();
 
-    print_answer(bridge::start(&mut table, &board));
+    print_answer(&output, bridge::start(&mut table, &board))?;
 
-    print(b"a sum in 32 bits ends at");
-    print_number(std::num::wrapping_add_u32(0xFFFF_FFFF, 2) as u64);
-    print(b"\n");
+    print(&output, "a sum in 32 bits ends at")?;
+    print_number(&output, 0xFFFF_FFFFu32.wrapping_add(2) as u64)?;
+    print(&output, "\n")?;
 
     // Process 0 lends the wrapping buffer; a driver tries to fill it.
-    allow(&mut table, &mut memory, Process(0), 3, 0xFFFF_FFFF, 2);
-    deposit(&table, &mut memory, Process(0), 0, &data);
+    allow(
+        &output,
+        &mut table,
+        &mut memory,
+        Process(0),
+        3,
+        0xFFFF_FFFF,
+        2,
+    )?;
+    deposit(&output, &table, &mut memory, Process(0), 0, &data)?;
 
     // Process 1 lends 16 bytes at 0x20002100; a driver fills the last four, and then tries to go one byte past the end.
-    allow(&mut table, &mut memory, Process(1), 3, 0x2000_2100, 16);
-    deposit(&table, &mut memory, Process(1), 12, &data);
-    deposit(&table, &mut memory, Process(1), 13, &data);
+    allow(
+        &output,
+        &mut table,
+        &mut memory,
+        Process(1),
+        3,
+        0x2000_2100,
+        16,
+    )?;
+    deposit(&output, &table, &mut memory, Process(1), 12, &data)?;
+    deposit(&output, &table, &mut memory, Process(1), 13, &data)?;
 
     let inside = written(&memory[0x210C..0x2110]);
     let all = written(&memory);
-    print(b"bytes written in the buffer's last four");
-    print_number(inside);
-    print(b", in the whole image");
-    print_number(all);
-    print(b"\n");
+    print(&output, "bytes written in the buffer's last four")?;
+    print_number(&output, inside)?;
+    print(&output, ", in the whole image")?;
+    print_number(&output, all)?;
+    print(&output, "\n")?;
 
     // Process 1 lends the same 16 bytes read-only; a driver fetches the last four, which stand at 0x2000210C. Process 0 has lent nothing.
-    allow(&mut table, &mut memory, Process(1), 4, 0x2000_2100, 16);
-    fetch(&table, &memory, &flash, Process(1), 12);
-    locate(&table, &memory, &flash, Process(1), 12);
-    fetch(&table, &memory, &flash, Process(0), 0);
+    allow(
+        &output,
+        &mut table,
+        &mut memory,
+        Process(1),
+        4,
+        0x2000_2100,
+        16,
+    )?;
+    fetch(&output, &table, &memory, &flash, Process(1), 12)?;
+    locate(&output, &table, &memory, &flash, Process(1), 12)?;
+    fetch(&output, &table, &memory, &flash, Process(0), 0)
 }

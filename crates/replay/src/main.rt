@@ -1,13 +1,16 @@
 // Replays the trace on standard input: its lines go to standard output. All that matters is the layer's `replay`. Here the images are zeros,
-// lines are written as they come, and a trace that is too long is only said to be. What cannot be read or written is told on standard error.
+// lines are written as they come, and a trace that is too long is only said to be. What cannot be read or written is told on standard error, and ends
+// the program with status 1.
 #![tactic(auto)]
 
-ghost use Rattle.std.specs.Prelude.{◌⊎◌, ◌≡◌, ◌≤◌, ◌<◌, length};
+ghost use Rattle.std.specs.Prelude.{◌⊎◌, ◌≡◌, ◌≤◌, ◌<◌, length, IfOk};
 
 mod streams;
 
 use layer::Progress;
 use lines::Line;
+use std::io::{self, Write};
+use std::process::ExitCode;
 use streams::Input;
 use table::Table;
 use types::Image;
@@ -18,53 +21,76 @@ const MAX_TRACE: usize = 65536;
 // Room for the longest line, that of a fetch of a whole image, so that each turn comes further.
 const ROOM: usize = 4 * Image::BYTES + Line::ROOM;
 
-// Lines from a place of the trace on; the place to go on from, or 0 where there are no more, or where they cannot be written.
-fn write_lines(trace: &[u8], at: usize, table: &mut [u32], memory: &mut [u8], flash: &[u8]) -> usize
-    ensures { (result ≡ 0) ⊎ ((at < result) × (result ≤ length trace.now)) }
+// Lines from a place of the trace on; the place to go on from, or 0 where there are no more.
+fn write_lines<W: Write>(
+    output: &mut W,
+    trace: &[u8],
+    at: usize,
+    table: &mut [u32],
+    memory: &mut [u8],
+    flash: &[u8],
+) -> io::Result<usize>
+    ensures { IfOk result (λ next. (next ≡ 0) ⊎ ((at < next) × (next ≤ length trace.now))) }
 {
     let mut lines = [0u8; ROOM];
     match layer::replay(trace, at, table, memory, flash, &mut lines) {
         Progress::Ended(written) => {
-            streams::put(&lines[..written]);
-            0
+            streams::put(output, &lines[..written])?;
+            Ok(0)
         }
         Progress::Paused(next, written) => {
-            if !streams::put(&lines[..written]) {
-                return 0;
-            }
-            next
+            streams::put(output, &lines[..written])?;
+            Ok(next)
         }
     }
 }
 
 // All lines: each turn comes further in the trace.
-fn write_all_lines(trace: &[u8], table: &mut [u32], memory: &mut [u8], flash: &[u8]) {
-    let mut at = write_lines(trace, 0, table, memory, flash);
+fn write_all_lines<W: Write>(
+    output: &mut W,
+    trace: &[u8],
+    table: &mut [u32],
+    memory: &mut [u8],
+    flash: &[u8],
+) -> io::Result<()> {
+    let mut at = write_lines(output, trace, 0, table, memory, flash)?;
     while at != 0 {
-        at = write_lines(trace, at, table, memory, flash);
+        at = write_lines(output, trace, at, table, memory, flash)?;
     }
+    Ok(())
 }
 
-fn replay(trace: &[u8]) {
+fn replay<W: Write>(output: &mut W, trace: &[u8]) -> io::Result<()> {
     let mut table = [0u32; Table::WORDS];
     let mut memory = [0u8; Image::BYTES];
     let flash = [0u8; Image::BYTES];
-    write_all_lines(trace, &mut table, &mut memory, &flash);
+    write_all_lines(output, trace, &mut table, &mut memory, &flash)
 }
 
 // The line of a trace that is too long.
-fn tell_too_long() {
+fn tell_too_long<W: Write>(output: &mut W) -> io::Result<()> {
     let mut line = [0u8; Line::ROOM];
     let end = lines::put_too_long(&mut line, 0);
-    streams::put(&line[..end]);
+    streams::put(output, &line[..end])
 }
 
-fn main() {
+// Tells what could not be done, and why. Where that cannot be written either, the status still says it.
+fn fail(rt: &impl Eprint, what: &str, why: &io::Error) -> ExitCode {
+    let _ = eprintln!(rt; "replay: {what}: {why}");
+    ExitCode::FAILURE
+}
+
+fn main(rt: HostRuntime) -> ExitCode {
     // One byte more than a trace may have is enough to see that it is too long.
     let mut input = [0u8; MAX_TRACE + 1];
-    match streams::get(&mut input) {
-        Input::Whole(n) => replay(&input[..n]),
-        Input::Full => tell_too_long(),
-        Input::Failed => {}
+    let mut output = rt.stdout();
+    let written = match streams::get(&mut rt.stdin(), &mut input) {
+        Input::Whole(n) => replay(&mut output, &input[..n]),
+        Input::Full => tell_too_long(&mut output),
+        Input::Failed(why) => return fail(&rt, "the trace could not be read", &why),
+    };
+    match written {
+        Ok(()) => ExitCode::SUCCESS,
+        Err(why) => fail(&rt, "the lines could not all be written", &why),
     }
 }
