@@ -5,7 +5,8 @@ use Prim.Native.Nat.{ℕ, suc, ◌+◌, ◌-◌, ◌^◌, ◌≤◌, ◌<◌}
 use Rattle.std.specs.Prelude.{◌≡◌, ◌↔◌, ◌≢◌, ◌⊎◌, Bool, ◌||◌, not, List, [], ◌∷◌, leb, ltb, eqb}
 use Rattle.std.proofs.Math.Path.{refl}
 use Rattle.std.proofs.Common.{ap, ◌∙◌, subst, inl, inr, arith, ltb-true, ltb-false}
-use Rattle.std.proofs.Math.Logic.{Iff·trans, and-true}
+use Rattle.std.proofs.Math.Logic.Iff as Iff
+use Rattle.std.proofs.Math.Logic.{and-true}
 use Rattle.std.proofs.Math.Bool.{true, false}
 use Rattle.std.proofs.lemmas.Bool.{lt-leb}
 use Rattle.definition.specs.Tests.{if◌then◌else◌}
@@ -13,7 +14,7 @@ use Rattle.definition.specs.Limits.{buffer_slots}
 use Rattle.definition.specs.Board.{Kind, subscribe, read_write, read_only, driver_at, slots_of, is_shared, has_slot, permits, reach}
 use Rattle.definition.specs.State.{Pair, Upcall, held, Claim}
 use Rattle.definition.specs.Answer.{Answer, waits, nothing, success, success_with1, success_with2, failure, RESERVE, NOSUPPORT, NODEVICE, is_accepted}
-use Rattle.definition.specs.Call.{Decoded, known, aside, exchange, command, bound, exit_terminate, exit_restart, decode, decode_yield, decode_memop, decode_exit, class_of}
+use Rattle.definition.specs.Call.{Decoded, known, aside, exit_terminate, exit_restart, decode, decode_yield, decode_memop, decode_exit, class_of}
 use Rattle.definition.specs.Area.{break_clears}
 use Rattle.definition.specs.Decide.{Outcome, reaching, not_installed, decide_exchange_at, decide_exchange, decide_command_at, decide_command, decide_break, decide_break_by, bound_of, decide_known, decide_call, decide_accepted, decide}
 use Rattle.definition.specs.World.{World, deliver, owns, command_answer, answer_of, view_of, perform, step}
@@ -68,19 +69,19 @@ module _ (w : World) (good : good_state w.state ≡ true) (p : ℕ) (S : Answer 
       → S (answer_to w p class r0 r1 r2 r3) ↔ (IsRunning w p × Q)
   unfolding By step perform decide decide_accepted answer_of
   call_told class r0 r1 r2 r3 d e g =
-      if_told By _ _ _ (Iff·trans (eq_told _ 0) (running_told w p class r0 r1 r2 r3)) (rw e g) (fails S only _ refl)
+      if_told By _ _ _ (Iff.trans (eq_told _ 0) (running_told w p class r0 r1 r2 r3)) (rw e g) (fails S only _ refl)
 
   -- that the driver is reached stands first
   permitted_told : (driver : ℕ) (x : Answer) (f : ℕ → Outcome) (Q : ℕ → Type 0) → is_accepted x ≡ false → S (answer_by w p (f (place_to w driver))) ↔ Q (place_to w driver)
       → S (answer_by w p (reaching (reach w.state.board (areas_in w p) driver) x f)) ↔ ((k : ℕ) × Permitted w p driver k × Q k)
   unfolding By permits answer_of
   permitted_told driver x f Q e g = rw (reached_if w.state.board (areas_in w p) driver x f)
-      (Iff·trans (if_told By _ _ _ (and_told _ _ (lt_told _ _) (eq_told _ 1)) g (fails S only x e)) (at_place w good p driver Q))
+      (Iff.trans (if_told By _ _ _ (and_told _ _ (lt_told _ _) (eq_told _ 1)) g (fails S only x e)) (at_place w good p driver Q))
 
   exchange_told : (kind : Kind) (driver j x y : ℕ) → S (success_with2 (held kind (process_in w p) (place_to w driver) j))
       → S (answer_to w p (class_of kind) driver j x y) ↔ (Exchanges kind w p driver j x y)
   unfolding By decide_call decide_known decide_exchange decide_exchange_at view_of has_slot answer_of
-  exchange_told kind driver j x y s = Iff·trans (call_told _ _ _ _ _ _ (decode_exchange kind driver j x y) (permitted_told driver _ _ fits (not_installed_lem kind _)
+  exchange_told kind driver j x y s = Iff.trans (call_told _ _ _ _ _ _ (decode_exchange kind driver j x y) (permitted_told driver _ _ fits (not_installed_lem kind _)
       (unless_told By _ _ _ (lt_told _ _) (fails S only _ refl) (unless_holds By _ _ _ (accepts_told kind _ _ x y) (fails S only _ refl) s))))
       (λ h. record { caller = h.0; place = h.1.0; permitted = h.1.1; slot = h.1.2.0; value = h.1.2.1 }, λ e. (e.caller, (e.place, e.permitted, (e.slot, e.value))))
     where
@@ -90,14 +91,14 @@ module _ (w : World) (good : good_state w.state ≡ true) (p : ℕ) (S : Answer 
   -- command 0
   exists_told : (driver x y : ℕ) → S success → S (answer_to w p 2 driver 0 x y) ↔ (Commands w p driver)
   unfolding decode decide_call decide_known decide_command decide_command_at view_of answer_of if◌then◌else◌
-  exists_told driver x y s = Iff·trans (call_told 2 driver 0 x y _ refl (permitted_told driver _ _ (λ k. Unit {0}) refl (λ _. tt, λ _. s)))
+  exists_told driver x y s = Iff.trans (call_told 2 driver 0 x y _ refl (permitted_told driver _ _ (λ k. Unit {0}) refl (λ _. tt, λ _. s)))
       (λ h. record { caller = h.0; place = h.1.0; permitted = h.1.1 }, λ e. (e.caller, (e.place, e.permitted, tt)))
 
   -- commands 1 to 3
   shared_told : (driver number x y : ℕ) (Owner : ℕ → Type 0) → eqb number 0 ≡ false → leb number 3 ≡ true
       → S (command_answer p number (claim_in w (place_to w driver))) ↔ Owner (claim_in w (place_to w driver)).owner → S (answer_to w p 2 driver number x y) ↔ (SharedCommands w p driver Owner)
   unfolding By decode decide_call decide_known decide_command decide_command_at view_of is_shared answer_of if◌then◌else◌
-  shared_told driver number x y Owner e f g = Iff·trans (call_told 2 driver number x y _ refl (permitted_told driver _ _ owned refl
+  shared_told driver number x y Owner e f g = Iff.trans (call_told 2 driver number x y _ refl (permitted_told driver _ _ owned refl
       (rw (e, f) (unless_told By _ _ _ (not_told _ (eq_told _ 0)) (fails S only _ refl) g))))
       (λ h. record { caller = h.0; place = h.1.0; permitted = h.1.1; shared = h.1.2.0; owner = h.1.2.1 }, λ e. (e.caller, (e.place, e.permitted, (e.shared, e.owner))))
     where
@@ -129,7 +130,7 @@ module _ (w : World) (good : good_state w.state ≡ true) (p : ℕ) (S : Answer 
 
   break_to_told : (new x y : ℕ) → S success → S (answer_to w p 5 0 new x y) ↔ (BreakMoves w p new)
   unfolding decode decode_memop decide_call decide_known if◌then◌else◌
-  break_to_told new x y s = Iff·trans (call_told 5 0 new x y _ refl (break_told success new true s (λ _. tt {0}, λ _. refl)))
+  break_to_told new x y s = Iff.trans (call_told 5 0 new x y _ refl (break_told success new true s (λ _. tt {0}, λ _. refl)))
       (λ h. moves_of h.0 h.1.1, λ b. (b.caller, (tt, may_move_lem b)))
 
   -- where new is the one place that the change can move the break to, and exact tells whether there is one
@@ -137,13 +138,13 @@ module _ (w : World) (good : good_state w.state ≡ true) (p : ℕ) (S : Answer 
       → ((n : ℕ) → MovedBy (process_in w p).break change n → E × (n ≡ new)) → S (success_with1 (process_in w p).break)
       → S (answer_by w p (decide_break (view_of w p) (process_in w p) (success_with1 (process_in w p).break) new exact))
       ↔ ((n : ℕ) × MovedBy (process_in w p).break change n × MayMove w p n)
-  moved_told change new exact E f there one s = Iff·trans (break_told _ new exact s f)
+  moved_told change new exact E f there one s = Iff.trans (break_told _ new exact s f)
       (λ h. (new, there h.0, h.1), λ h. let (e, q) = one h.0 h.1 in (e, subst (MayMove w p) q h.2))
 
   break_by_told : (change x y : ℕ) → change < 2 ^ 32 → S (success_with1 (process_in w p).break)
       → S (answer_to w p 5 1 change x y) ↔ ((new : ℕ) × MovedBy (process_in w p).break change new × BreakMoves w p new)
   unfolding decode decode_memop decide_call decide_known decide_break_by if◌then◌else◌
-  break_by_told change x y small s = Iff·trans (call_told 5 1 change x y _ refl (go (ltb change (2 ^ 31)) refl))
+  break_by_told change x y small s = Iff.trans (call_told 5 1 change x y _ refl (go (ltb change (2 ^ 31)) refl))
       (λ h. (h.1.0, h.1.1, moves_of h.0 h.1.2), λ h. (h.2.caller, (h.0, h.1, may_move_lem h.2)))
     where
       old : ℕ
@@ -157,7 +158,7 @@ module _ (w : World) (good : good_state w.state ≡ true) (p : ℕ) (S : Answer 
 
   bound_told : (operation x y z : ℕ) → 2 ≤ operation → operation ≤ 6 → S (success_with1 (bound_of (areas_in w p) operation)) → S (answer_to w p 5 operation x y z) ↔ (IsRunning w p)
   unfolding decide_call decide_known view_of answer_of
-  bound_told n x y z h g s = Iff·trans (call_told 5 n x y z _ (decode_bound n x y z h g) (λ _. tt {0}, λ _. s)) and-true
+  bound_told n x y z h g s = Iff.trans (call_told 5 n x y z _ (decode_bound n x y z h g) (λ _. tt {0}, λ _. s)) and-true
 
 -- ---- the exits, and the calls that are never accepted
 

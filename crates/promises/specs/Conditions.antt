@@ -2,7 +2,7 @@
 -- is running, and at which place a driver stands.
 use Rattle.std.specs.Prelude.{ℕ, ◌+◌, ◌-◌, ◌/◌, ◌%◌, ◌^◌, ◌≤◌, ◌<◌, ◌≡◌, refl, ◌↔◌, ◌≢◌, ◌⊎◌, true, false, not, length}
 use Rattle.std.proofs.Common.{sym, ap, subst, inl, inr, arith, ltb-true, lt-ltb}
-use Rattle.std.proofs.Math.Logic.{Iff·trans}
+use Rattle.std.proofs.Math.Logic.Iff as Iff
 use Rattle.std.proofs.lemmas.Bool.{not-false}
 use Rattle.definition.specs.Tests.{if◌then◌else◌}
 use Rattle.definition.specs.Limits.{buffer_slots}
@@ -60,7 +60,7 @@ pub clears_told : (a : Areas) (break new : ℕ) (x : Pair)
     → Tells (clears a break new x) (x.second ≢ 0 → Lies a.ram_start break x.first x.second → x.first + x.second ≤ new)
 unfolding clears
 clears_told a break new x =
-    Iff·trans (implies_told _ _ (in_ram_told a break x (area_of a break x) (area_lies a break x)) (le_told (x.first + x.second) new)) (λ f n l. f (n, l), λ f h. f h.0 h.1)
+    Iff.trans (implies_told _ _ (in_ram_told a break x (area_of a break x) (area_lies a break x)) (le_told (x.first + x.second) new)) (λ f n l. f (n, l), λ f h. f h.0 h.1)
 
 -- ---- the process, the driver and the break, as the conditions have them
 

@@ -1,7 +1,7 @@
 -- Request 3: a process cannot tell a driver that is denied to it from one that is not there. On the board with the driver its list is followed beside its own
 -- steps on the board without it: another's step changes nothing that it sees. There, where it sends no command above 0 to any shared driver, the other list
 -- gives it what its own steps alone do, as in demand 3.
-use Rattle.std.specs.Prelude.{ℕ, ◌<◌, ◌≡◌, Bool, false, not, length, eqb}
+use Rattle.std.specs.Prelude.{ℕ, ◌<◌, ◌≡◌, Bool, false, length, eqb}
 use Rattle.std.proofs.Math.Path.{refl, subst}
 use Rattle.std.proofs.Common.{sym, ap, ◌∙◌, eqb-true, eq-eqb}
 use Rattle.std.proofs.Math.Bool.{true}

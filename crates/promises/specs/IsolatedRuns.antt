@@ -3,7 +3,6 @@ use Rattle.std.specs.Prelude.{ℕ, ◌<◌, ◌≡◌, refl, Bool, true, false, 
 use Rattle.std.proofs.Common.{ap}
 use Rattle.definition.specs.Tests.{if◌then◌else◌}
 use Rattle.definition.specs.Board.{Board}
-use Rattle.definition.specs.Decide.{answers}
 use Rattle.definition.specs.World.{World, Step, own, latch}
 use Rattle.definition.specs.Runs.{is_own, those, own_steps, run, answers_to, all_answers, sends_shared, sends_none}
 use Rattle.laws.specs.Facts.{clash, both, and}

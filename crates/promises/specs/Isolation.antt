@@ -16,7 +16,7 @@ use Rattle.definition.specs.Decide.{Action, call, event, resume, deposit, fetch,
 use Rattle.definition.specs.World.{answer_of, process_after, write_of, Write, World, Step, own, latch, Out, process_at, ram_of, view_of, store, perform, latch_step, step}
 use Rattle.definition.specs.Runs.{is_own, sends_shared, sends_none}
 use Rattle.definition.specs.Table.{wrong_image, refuse_step, lent_of}
-use Rattle.laws.specs.Facts.{clash, either, both, and}
+use Rattle.laws.specs.Facts.{clash, either, both}
 use Rattle.laws.specs.Why.{Why, Because}
 use Rattle.laws.specs.Fit.{Inside}
 use Rattle.laws.specs.FitAfter.{inside_after}

@@ -2,7 +2,8 @@
 use Rattle.std.specs.Prelude.{ℕ, ◌≤◌, ◌<◌, ◌≡◌, ◌↔◌, ◌⊎◌, Bool, ◌&&◌, ◌||◌, not, List, [], ◌∷◌, leb, ltb, eqb}
 use Rattle.std.proofs.Math.Path.{refl}
 use Rattle.std.proofs.Common.{inl, inr, arith, leb-true, ltb-true, eqb-true, le-leb, lt-ltb, eq-eqb}
-use Rattle.std.proofs.Math.Logic.{Iff·trans, and-true}
+use Rattle.std.proofs.Math.Logic.Iff as Iff
+use Rattle.std.proofs.Math.Logic.{and-true}
 use Rattle.std.proofs.Math.Bool.{true, false}
 use Rattle.definition.specs.Tests.{if◌then◌else◌, all_of, every_below, contains}
 use Rattle.laws.specs.Facts.{clash, both, and, implied, implies, below_at, at_below, contains_true, true_contains}
@@ -69,7 +70,7 @@ module _ {A : Type 0} (S : A → Type 0) where
   -- where the other side always has it
   module _ {P : Type 0} where
     pub if_holds : (t : Bool) (x y : A) → Tells t P → S x → ¬ S y → S (if t then x else y) ↔ P
-    if_holds t x y f s n = Iff·trans (if_told t x y f (λ _. tt {0}, λ _. s) n) and-true
+    if_holds t x y f s n = Iff.trans (if_told t x y f (λ _. tt {0}, λ _. s) n) and-true
 
     pub unless_holds : (t : Bool) (x y : A) → Tells t P → ¬ S x → S y → S (if not t then x else y) ↔ P
-    unless_holds t x y f n s = Iff·trans (unless_told t x y f n (λ _. tt {0}, λ _. s)) and-true
+    unless_holds t x y f n s = Iff.trans (unless_told t x y f n (λ _. tt {0}, λ _. s)) and-true

@@ -24,7 +24,7 @@ use Rattle.layer.specs.declared.Place.{Place}
 use Rattle.layer.specs.declared.Fetched.{Fetched}
 use Rattle.layer.specs.declared.Progress.{Progress}
 use Rattle.layer.specs.declared.Progress.TheVariants.{Paused}
-use Rattle.layer.specs.Steps.{lent, gave, Makes, MakesAlone, Starts}
+use Rattle.layer.specs.Steps.{gave, Makes, MakesAlone, Starts}
 use Rattle.layer.specs.Fetching.{part_of, Lies, Finds, stands_at, IsPart}
 use Rattle.layer.specs.Replaying.{progress_by, Plays}
 use Rattle.layer.specs.StatementLaws.{part_size}
@@ -212,7 +212,7 @@ module _ (m f r : Bor (List ℕ)) where
   pub part_length : (length r.now ≡ 2 → ⊥) → ¬ IsPart (part_of (read_after shows)) m f r
   part_length other p = other (ap length (p.bytes ∙ ap (λ a. (part_of a).bytes) two_read))
 
-  pub part_elsewhere : (r.ptr ≡ (m.ptr.0, m.ptr.1 + 0xF00) → ⊥) → ¬ IsPart (part_of (read_after shows)) m f r
+  pub part_elsewhere : (r.ref_ptr ≡ (m.ref_ptr.0, m.ref_ptr.1 + 0xF00) → ⊥) → ¬ IsPart (part_of (read_after shows)) m f r
   part_elsewhere other p = other (p.place ∙ ap (λ a. stands_at (part_of a) m f) two_read)
 
 -- fetch_place, and fetch_answer: another length or place; of the latter another number, too
