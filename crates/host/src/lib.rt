@@ -1,4 +1,4 @@
-// What a C or Rust host links: the layer's steps on numbers and slices, where a held buffer lies, and its run over a trace. Each takes any
+// What a C or Rust host calls: the layer's steps on numbers and slices, where a held buffer lies, and its run over a trace. Each takes any
 // numbers and slices; a step says what it did in six words of a slice that the host lends, and the run in three.
 #![tactic(auto)]
 
@@ -19,16 +19,14 @@ mod progress;
 use types::{Driver, Process, Registers};
 
 // Whether a lent table is well formed: any words, of any length.
-#[unsafe(no_mangle)]
-pub extern "C" fn mk_table_well_formed(table: &[u32]) -> bool
+pub fn mk_table_well_formed(table: &[u32]) -> bool
     ensures { result ≡ well_formed table.now }
 {
     table_check::checks::well_formed(table)
 }
 
 // Makes the table that of the fresh state of a board.
-#[unsafe(no_mangle)]
-pub extern "C" fn mk_start(table: &mut [u32], board: &[u32], out: &mut [u32]) -> bool
+pub fn mk_start(table: &mut [u32], board: &[u32], out: &mut [u32]) -> bool
     ensures { WritesAlone (start board.now) table.old out.old result table.new out.new }
 {
     if out.len() < answers::WORDS {
@@ -40,8 +38,7 @@ pub extern "C" fn mk_start(table: &mut [u32], board: &[u32], out: &mut [u32]) ->
 }
 
 // A call of a process: its class, and its four registers.
-#[unsafe(no_mangle)]
-pub extern "C" fn mk_call(
+pub fn mk_call(
     table: &mut [u32],
     memory: &mut [u8],
     process: u32,
@@ -64,8 +61,7 @@ pub extern "C" fn mk_call(
 }
 
 // A driver's event for a process's subscribe slot, with three arguments.
-#[unsafe(no_mangle)]
-pub extern "C" fn mk_event(
+pub fn mk_event(
     table: &mut [u32],
     process: u32,
     driver: u32,
@@ -94,8 +90,7 @@ pub extern "C" fn mk_event(
 }
 
 // A process that waits is asked again.
-#[unsafe(no_mangle)]
-pub extern "C" fn mk_resume(table: &mut [u32], process: u32, out: &mut [u32]) -> bool
+pub fn mk_resume(table: &mut [u32], process: u32, out: &mut [u32]) -> bool
     ensures { WritesAlone (table_step (own process resume)) table.old out.old result table.new out.new }
 {
     if out.len() < answers::WORDS {
@@ -107,8 +102,7 @@ pub extern "C" fn mk_resume(table: &mut [u32], process: u32, out: &mut [u32]) ->
 }
 
 // A driver's bytes for a process's read-write buffer, from an offset in it on.
-#[unsafe(no_mangle)]
-pub extern "C" fn mk_deposit(
+pub fn mk_deposit(
     table: &[u32],
     memory: &mut [u8],
     process: u32,
@@ -137,8 +131,7 @@ pub extern "C" fn mk_deposit(
 }
 
 // Where the bytes of a process's read-only buffer lie, from an offset in it on: the host reads them there, and nothing is copied.
-#[unsafe(no_mangle)]
-pub extern "C" fn mk_fetch(
+pub fn mk_fetch(
     table: &[u32],
     memory: &[u8],
     flash: &[u8],
@@ -169,8 +162,7 @@ pub extern "C" fn mk_fetch(
 }
 
 // A shared driver's value: a signed peak.
-#[unsafe(no_mangle)]
-pub extern "C" fn mk_latch(table: &mut [u32], driver: u32, peak: i32, out: &mut [u32]) -> bool
+pub fn mk_latch(table: &mut [u32], driver: u32, peak: i32, out: &mut [u32]) -> bool
     ensures { WritesAlone (table_step (latch driver (word_of peak))) table.old out.old result table.new out.new }
 {
     if out.len() < answers::WORDS {
@@ -182,8 +174,7 @@ pub extern "C" fn mk_latch(table: &mut [u32], driver: u32, peak: i32, out: &mut 
 }
 
 // Where the buffer lies that a process holds in a slot of a driver. The class is that of the allow that lends it, 3 or 4.
-#[unsafe(no_mangle)]
-pub extern "C" fn mk_area(
+pub fn mk_area(
     table: &[u32],
     process: u32,
     class: u8,
@@ -203,8 +194,7 @@ pub extern "C" fn mk_area(
 }
 
 // The run over a trace from a place on, 0 for all of it; its lines go to the front of `lines`.
-#[unsafe(no_mangle)]
-pub extern "C" fn mk_replay(
+pub fn mk_replay(
     trace: &[u8],
     at: usize,
     table: &mut [u32],
