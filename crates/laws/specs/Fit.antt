@@ -9,7 +9,7 @@ use Rattle.definition.specs.Tests.{if◌then◌else◌, Each, none, more}
 use Rattle.definition.specs.Limits.{max_drivers, max_slots, max_queue, all_slots}
 use Rattle.definition.specs.Board.{Board, Areas, Kind, subscribe, read_write, read_only, driver_at, slots_of}
 use Rattle.definition.specs.State.{Pair, null, Upcall, exited, is_exited, Process, slot_at, cleared}
-use Rattle.definition.specs.World.{cancel, hold, after_exchange, Write}
+use Rattle.definition.specs.World.{cancel, after_exchange, Write}
 use Rattle.definition.specs.WellFormed.{good_slot}
 use Rattle.laws.specs.Facts.{never, clash, and}
 use Rattle.laws.specs.Slots.{slot_one}

@@ -1,5 +1,5 @@
 -- Every outcome keeps a process's record good, and writes only inside its RAM.
-use Rattle.std.specs.Prelude.{ℕ, ◌+◌, ◌-◌, ◌≤◌, ◌<◌, ◌≡◌, Bool, length, set, eqb}
+use Rattle.std.specs.Prelude.{ℕ, ◌+◌, ◌-◌, ◌≤◌, ◌<◌, ◌≡◌, Bool, eqb}
 use Rattle.std.proofs.Math.Path.{refl}
 use Rattle.std.proofs.Common.{ap, ◌∙◌, subst, arith, length-set, length-append}
 use Rattle.std.proofs.Math.Bool.{true, false}
@@ -14,9 +14,9 @@ use Rattle.definition.specs.State.{Pair, null, Upcall, Status, running, waiting,
 use Rattle.definition.specs.Answer.{Answer}
 use Rattle.definition.specs.Area.{holdable, accepts, clears, break_clears}
 use Rattle.definition.specs.Decide.{Action, View, areas_of, Outcome, answers, exchanges, polls, awaits, moves, leaves, queues, writes, commands}
-use Rattle.definition.specs.World.{is_empty, hold, Write, no_write, process_after, write_of}
+use Rattle.definition.specs.World.{is_empty, hold, no_write, process_after, write_of}
 use Rattle.definition.specs.WellFormed.{kind_at, good_slot}
-use Rattle.laws.specs.Facts.{clash, and, below_at, contains_true, set_each, get_d_same}
+use Rattle.laws.specs.Facts.{clash, below_at, contains_true, set_each, get_d_same}
 use Rattle.laws.specs.Why.{Why, Because, Exchanged, Queued, Written, Left, ended, again}
 use Rattle.laws.specs.Slots.{slot_null, slot_low, slot_carry, slot_new, held_holdable, moved_holdable, writable_inside}
 use Rattle.laws.specs.Fit.{Fits, Ground, Inside, nowhere, inside, each_tail, each_snoc, tail_length, place_small, number_small, exchange_carried, exchange_length}

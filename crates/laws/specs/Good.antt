@@ -6,16 +6,16 @@ use Rattle.std.proofs.Common.{◌∙◌, subst, arith}
 use Rattle.std.proofs.Math.Bool.{true, false, not}
 use mathlib.Core.List.{List, [], ◌∷◌}
 use Rattle.std.proofs.Math.Decide.{dec_lt}
-use Rattle.std.proofs.Math.ListN.{length, set, replicate, get_or-eq_default}
+use Rattle.std.proofs.Math.ListN.{length, replicate, get_or-eq_default}
 use Rattle.std.proofs.lemmas.List.{length-replicate}
 use Rattle.std.proofs.Math.Seq.{ext_get_or}
 use Rattle.std.proofs.Math.Dec.{eqb}
 use borrow.Author.Tests.{leb-true, ltb-true, eqb-true, le-leb, lt-ltb, eq-eqb, ne_eqb, not-true}
 use Rattle.definition.specs.Tests.{if◌then◌else◌, Each, none, more, every_below}
 use Rattle.definition.specs.Limits.{all_slots}
-use Rattle.definition.specs.Board.{Board, Areas, no_areas, subscribe, areas_at, installed, has_slot, is_shared, good_board}
+use Rattle.definition.specs.Board.{Board, Areas, no_areas, subscribe, areas_at, has_slot, is_shared, good_board}
 use Rattle.definition.specs.State.{Pair, null, is_null, Upcall, no_upcall, Status, running, waiting, exited, is_exited, Process, no_process, held, cleared, Claim, free, State}
-use Rattle.definition.specs.World.{own, latch, process_at}
+use Rattle.definition.specs.World.{process_at}
 use Rattle.definition.specs.WellFormed.{good_slot, good_upcall, is_cleared, good_process, may_own, good_claim, good_state}
 use Rattle.laws.specs.Facts.{clash, both, implied, implies, or_false, or_right, each_holds, all_hold, below_at, at_below, get_d_same}
 use Rattle.laws.specs.Slots.{slot_null}

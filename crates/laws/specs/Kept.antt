@@ -1,12 +1,12 @@
 -- Every step keeps a state good, and a fresh one is.
-use Rattle.std.specs.Prelude.{ℕ, ◌≡◌, refl, true, false, not, List, map, length, get_or, set, eqb}
-use Rattle.std.proofs.Common.{ap, ◌∙◌, eqb-true}
+use Rattle.std.specs.Prelude.{ℕ, ◌≡◌, refl, true, List, map, get_or, set, eqb}
+use Rattle.std.proofs.Common.{◌∙◌, eqb-true}
 use Rattle.std.proofs.Math.Path.{subst}
 use Rattle.std.proofs.Math.ListN.{length-set, get_or-map}
 use Rattle.std.proofs.lemmas.List.{length-map}
 use Rattle.std.proofs.lemmas.Bool.{not-false}
-use Rattle.definition.specs.Board.{Board, Areas, no_areas, no_driver, areas_at, is_shared, place_of, good_board}
-use Rattle.definition.specs.State.{running, Process, no_process, cleared, Claim, free, State, fresh}
+use Rattle.definition.specs.Board.{Board, no_areas, no_driver, areas_at, is_shared, place_of, good_board}
+use Rattle.definition.specs.State.{running, no_process, cleared, Claim, free, State, fresh}
 use Rattle.definition.specs.Decide.{Action, Outcome, decide}
 use Rattle.definition.specs.World.{freed, World, Step, own, latch, Out, process_at, process_after, view_of, perform, latch_refusal, latch_step, step}
 use Rattle.definition.specs.WellFormed.{good_state}

@@ -5,11 +5,10 @@ use Rattle.definition.specs.Limits.{max_queue}
 use Rattle.definition.specs.Board.{Board, Kind, subscribe, read_write, driver_at, slots_of, place_of, is_shared, permits}
 use Rattle.definition.specs.State.{Pair, Upcall, Status, running, exited, is_exited, Process, held}
 use Rattle.definition.specs.Answer.{Answer, refused, registers, delivered, waits, nothing, taken, deposited, latched, started, terminated, restarted, fetched, SUCCESS_WITH_2_U32, changes_nothing}
-use Rattle.definition.specs.Call.{exchange, command, known, class_of}
+use Rattle.definition.specs.Call.{class_of}
 use Rattle.definition.specs.Area.{accepts, break_clears}
-use Rattle.definition.specs.Decide.{Action, call, event, deposit, fetch, View, areas_of, Outcome, answers, exchanges, polls, awaits, moves, leaves, queues, writes, commands, refuse}
+use Rattle.definition.specs.Decide.{Action, call, event, View, areas_of, Outcome, answers, exchanges, polls, awaits, moves, leaves, queues, writes, commands}
 use Rattle.definition.specs.Runs.{sends_shared}
-use Rattle.laws.specs.Facts.{and}
 
 -- ---- answers
 
