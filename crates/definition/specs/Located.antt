@@ -1,6 +1,6 @@
 -- What a host asks of a lent table: where a held buffer lies. It is no step: the table is only read.
 use Rattle.std.specs.Prelude.{ℕ, Bool, false, not, List, [], ◌∷◌, length, ltb, eqb}
-use Rattle.definition.specs.Tests.{if◌then◌else◌, Row, ◌when◌, first_of}
+use Rattle.definition.specs.Tests.{provided◌then◌else◌, Row, ◌when◌, first_of}
 use Rattle.definition.specs.Board.{Board, Kind, subscribe, read_write, read_only, areas_at, place_of, installed, has_slot}
 use Rattle.definition.specs.State.{Pair, held, State}
 use Rattle.definition.specs.Call.{class_of}
@@ -29,12 +29,12 @@ located kind p driver j s =
     let k = place_of s.board.drivers driver in
     let x = held kind (process_at s p) k j in
     let n = first_of (question_rows kind s.board p k j) in
-    if eqb n 0 then lies (area_of (areas_at s.board p) (process_at s p).break x) x else refused n
+    provided eqb n 0 then lies (area_of (areas_at s.board p) (process_at s p).break x) x else refused n
 
 -- row 2 stands before them
 unfoldable pub locate : Kind → (process driver slot : ℕ) → (table : List ℕ) → Located
-locate kind p driver j t = if well_formed t then located kind p driver j (state_of t) else refused 2
+locate kind p driver j t = provided well_formed t then located kind p driver j (state_of t) else refused 2
 
 -- the slots that a class's calls fill, as far as they are for buffers: the class is that of the allow that lends one
 abbrev pub lent_by : ℕ → Kind
-lent_by class = if eqb class (class_of read_write) then read_write else if eqb class (class_of read_only) then read_only else subscribe
+lent_by class = provided eqb class (class_of read_write) then read_write else provided eqb class (class_of read_only) then read_only else subscribe

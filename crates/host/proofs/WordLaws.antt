@@ -7,7 +7,7 @@ use native.Mathlib.Omega.{arith}
 use lib.ListN.{length, drop}
 use lib.Dec.{leb}
 use borrow.Author.Tests.{le-leb, lt-leb}
-use Rattle.definition.specs.Tests.{if◌then◌else◌}
+use Rattle.definition.specs.Tests.{provided◌then◌else◌}
 use Rattle.definition.specs.Answer.{Answer, changes_nothing}
 use Rattle.definition.specs.Decide.{fetch}
 use Rattle.definition.specs.World.{Step, own, Out}
@@ -43,12 +43,12 @@ put_front row out e = let z : 0 + length row ≡ 6 = omega arith in ap (λ (n : 
 module _ (step : Lent → Out Lent) (x : Lent) (out : List ℕ) where
   -- out has no room
   pub told_nothing : length out < 6 → tell step x out ≡ told false x out
-  unfolding tell if◌then◌else◌
+  unfolding tell provided◌then◌else◌
   told_nothing h = rw (lt-leb 6 (length out) h)
 
   -- it has
   pub told_answer : (r : Answer) (x' : Lent) (out' : List ℕ) → 6 ≤ length out → step x ≡ gave r x' → out' ≡ answer_words r ++ drop 6 out → tell step x out ≡ told true x' out'
-  unfolding tell if◌then◌else◌
+  unfolding tell provided◌then◌else◌
   told_answer r x' out' h e w =
       let room : leb 6 (length out) ≡ true = le-leb 6 (length out) h in
       rw room (ap₂ (λ (o : Out Lent) (l : List ℕ). told true o.after l) e (ap (λ (o : Out Lent). answer_words o.answer ++ drop 6 out) e ∙ sym w))
@@ -94,9 +94,9 @@ lies_told a area x n e q = ap (λ (n : ℕ). 12 ∷ n ∷ x.0 ∷ x.1 ∷ 0 ∷ 
 
 module _ (words out : List ℕ) where
   pub asked_nothing : length out < 6 → answered words out ≡ (false, out)
-  unfolding answered if◌then◌else◌
+  unfolding answered provided◌then◌else◌
   asked_nothing h = rw (lt-leb 6 (length out) h)
 
   pub asked_answer : (words' out' : List ℕ) → 6 ≤ length out → words' ≡ words → out' ≡ words' ++ drop 6 out → answered words out ≡ (true, out')
-  unfolding answered if◌then◌else◌
+  unfolding answered provided◌then◌else◌
   asked_answer words' out' h e w = rw (le-leb 6 (length out) h) (ap (λ (l : List ℕ). (true, l)) (sym (front_is 6 out e w)))

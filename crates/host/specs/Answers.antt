@@ -1,6 +1,6 @@
 -- What a host is told of a step, and of where a held buffer lies: an answer as a kind and five words, at the front of a slice that it lends.
 use Rattle.std.specs.Prelude.{ℕ, ◌≡◌, Bool, true, false, List, [], ◌∷◌, ◌++◌, length, drop, leb}
-use Rattle.definition.specs.Tests.{if◌then◌else◌}
+use Rattle.definition.specs.Tests.{provided◌then◌else◌}
 use Rattle.definition.specs.Answer.{Image, memory, flash, Answer, refused, registers, delivered, waits, nothing, taken, deposited, latched, started, terminated, restarted, fetched}
 use Rattle.definition.specs.Area.{Area, empty, in_ram, in_flash, outside}
 use Rattle.definition.specs.World.{Out}
@@ -57,7 +57,7 @@ told done x out = record { done = done; after = x; out = out }
 
 -- the answer stands in the first six words of out, the rest of which stays as it was; where out has fewer, nothing is done
 unfoldable pub tell : (Lent → Out Lent) → Lent → (out : List ℕ) → Told
-tell step x out = if leb 6 (length out) then told true (step x).after (answer_words (step x).answer ++ drop 6 out) else told false x out
+tell step x out = provided leb 6 (length out) then told true (step x).after (answer_words (step x).answer ++ drop 6 out) else told false x out
 
 -- it takes the memory image; the flash image, which it does not take, stays as it was
 abbrev pub Writes : (Lent → Out Lent) → (table memory out : List ℕ) → Bool → (after memoryAfter outAfter : List ℕ) → Type 0
@@ -75,4 +75,4 @@ WritesOnly step t m f out r out' = tell step (lent t m f) out ≡ told r (lent t
 
 -- its words stand in the first six of out, the rest of which stays as it was; where out has fewer, nothing is done
 unfoldable pub answered : (words out : List ℕ) → Bool × List ℕ
-answered words out = if leb 6 (length out) then (true, words ++ drop 6 out) else (false, out)
+answered words out = provided leb 6 (length out) then (true, words ++ drop 6 out) else (false, out)

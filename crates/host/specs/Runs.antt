@@ -1,6 +1,6 @@
 -- What a host is told of a run over a trace: a kind, the place to go on from and how many bytes were written, at the front of a slice that it lends.
 use Rattle.std.specs.Prelude.{ℕ, ◌≡◌, Bool, true, false, List, [], ◌∷◌, ◌++◌, length, drop, leb}
-use Rattle.definition.specs.Tests.{if◌then◌else◌}
+use Rattle.definition.specs.Tests.{provided◌then◌else◌}
 use Rattle.definition.specs.Table.{Lent}
 use Rattle.layer.specs.declared.Progress.{Progress}
 use Rattle.layer.specs.declared.Progress.TheVariants.{Ended, Paused}
@@ -19,4 +19,4 @@ abbrev pub NotRun : Lent → (lines out : List ℕ) → Bool → Lent → (lines
 NotRun x lines out r y lines' out' = (r ≡ false) × (y ≡ x) × (lines' ≡ lines) × (out' ≡ out)
 
 unfoldable pub Runs : List ℕ → Lent → (at : ℕ) → (lines out : List ℕ) → Bool → Lent → (linesAfter outAfter : List ℕ) → Type 0
-Runs s x at lines out r y lines' out' = if leb 3 (length out) then RunTold s x at lines out r y lines' out' else NotRun x lines out r y lines' out'
+Runs s x at lines out r y lines' out' = provided leb 3 (length out) then RunTold s x at lines out r y lines' out' else NotRun x lines out r y lines' out'

@@ -4,7 +4,7 @@ use Rattle.std.proofs.Math.Path.{refl}
 use Rattle.std.proofs.Math.Bool.{true, false}
 use Rattle.std.proofs.Math.Dec.{eqb}
 use borrow.Author.Tests.{eqb-true, eqb-false, eq-eqb, ne_eqb}
-use Rattle.definition.specs.Tests.{if◌then◌else◌, within}
+use Rattle.definition.specs.Tests.{provided◌then◌else◌, within}
 use Rattle.definition.specs.Board.{Areas, read_only}
 use Rattle.definition.specs.State.{Pair}
 use Rattle.definition.specs.Area.{Area, empty, in_ram, in_flash, outside, area_of, accessible}
@@ -27,11 +27,11 @@ module _ (a : Areas) (break : ℕ) (x : Pair) where
 
   -- the area of a buffer, taken apart into its numbers
   pub area_lies : Lies (area_of a break x)
-  unfolding area_of if◌then◌else◌
+  unfolding area_of provided◌then◌else◌
   area_lies = go _ _ _ refl refl refl
     where
       go : (s t u : Bool) → eqb x.second 0 ≡ s → within a.ram_start break x.first x.second ≡ t → within a.flash_start a.flash_end x.first x.second ≡ u
-          → Lies (if s then empty else if t then in_ram else if u then in_flash else outside)
+          → Lies (provided s then empty else provided t then in_ram else provided u then in_flash else outside)
       go true t u p q r = eqb-true _ _ p
       go false true u p q r = (eqb-false _ _ p, within_true _ _ _ _ q)
       go false false true p q r = (eqb-false _ _ p, within_false _ _ _ _ q, within_true _ _ _ _ r)
@@ -39,7 +39,7 @@ module _ (a : Areas) (break : ℕ) (x : Pair) where
 
   -- and put together again
   pub lies_area : (area : Area) → Lies area → area_of a break x ≡ area
-  unfolding area_of if◌then◌else◌
+  unfolding area_of provided◌then◌else◌
   lies_area empty z = rw (eq-eqb x.second 0 z)
   lies_area in_ram (n, r) = rw (ne_eqb x.second 0 n, true_within a.ram_start break x.first x.second r.0 r.1)
   lies_area in_flash (n, q, f) = rw (ne_eqb x.second 0 n, false_within a.ram_start break x.first x.second q, true_within a.flash_start a.flash_end x.first x.second f.0 f.1)

@@ -8,7 +8,7 @@ use Rattle.std.proofs.Math.ListN.{set, get_or-map}
 use Rattle.std.proofs.lemmas.List.{length-map}
 use Rattle.std.proofs.Math.Dec.{eqb, eqb-zero-suc}
 use borrow.Author.Tests.{eqb-false}
-use Rattle.definition.specs.Tests.{if◌then◌else◌}
+use Rattle.definition.specs.Tests.{provided◌then◌else◌}
 use Rattle.definition.specs.Board.{Board, Areas, areas_at, is_shared, permits}
 use Rattle.definition.specs.State.{running, waiting, is_exited, Process, no_process, Claim, free}
 use Rattle.definition.specs.Decide.{Action, View, areas_of, Outcome, answers, exchanges, polls, awaits, moves, leaves, queues, writes, commands}
@@ -43,13 +43,13 @@ is_leave (commands k n x y) = false
 
 -- one that does not leaves it awake
 stays_awake : (a : Areas) (process : Process) (o : Outcome) → is_leave o ≡ false → is_exited process.status ≡ false → is_exited (process_after a process o).status ≡ false
-unfolding process_after if◌then◌else◌
+unfolding process_after provided◌then◌else◌
 stays_awake a process (answers x) f e = e
 stays_awake a process (exchanges kind k j x) f e = e
 stays_awake a process (polls address) f e = e
 stays_awake a process awaits f e = go (is_empty process.queue)
   where
-    go : (t : Bool) → is_exited (if t then waiting else running) ≡ false
+    go : (t : Bool) → is_exited (provided t then waiting else running) ≡ false
     go true = refl
     go false = refl
 stays_awake a process (moves new x) f e = e
@@ -77,24 +77,24 @@ module _ (b : Board) (processes : List Process) where
 
   -- with the claims of process p given up, where no other owner is lost
   freed_fits : (k p : ℕ) (after : List Process) (c : Claim) → ((q : ℕ) → (p ≡ q → ⊥) → Owner b processes k q → Owner b after k q) → ClaimFits b processes k c → ClaimFits b after k (freed p c)
-  unfolding freed if◌then◌else◌
+  unfolding freed provided◌then◌else◌
   freed_fits k p after c others g = go (eqb c.owner (suc p)) refl
     where
-      go : (t : Bool) → eqb c.owner (suc p) ≡ t → ClaimFits b after k (if t then with_owner 0 c else c)
+      go : (t : Bool) → eqb c.owner (suc p) ≡ t → ClaimFits b after k (provided t then with_owner 0 c else c)
       go true e = record { unshared = λ u. ap (with_owner 0) (g.unshared u); owned = λ q o. absurd (omega arith) }
       go false e = record { unshared = g.unshared; owned = λ q h. others q (λ pq. eqb-false _ _ e (h ∙ ap suc (sym pq))) (g.owned q h) }
 
   command_fits : (k p n : ℕ) (c : Claim) → is_shared b k ≡ true → Owner b processes k p → ClaimFits b processes k c → ClaimFits b processes k (after_command p n c)
-  unfolding after_command if◌then◌else◌
+  unfolding after_command provided◌then◌else◌
   command_fits k p n c sh o g = go (eqb n 1 && eqb c.owner 0) (eqb n 2 && eqb c.owner (suc p))
     where
-      go : (t u : Bool) → ClaimFits b processes k (if t then with_owner (suc p) c else if u then with_owner 0 c else c)
+      go : (t u : Bool) → ClaimFits b processes k (provided t then with_owner (suc p) c else provided u then with_owner 0 c else c)
       go true u = record { unshared = λ e. clash sh e; owned = λ q e. subst (λ r. Owner b processes k r) (omega arith) o }
       go false true = released k c g.unshared
       go false false = g
 
 freed_free : (p : ℕ) → freed p free ≡ free
-unfolding freed if◌then◌else◌
+unfolding freed provided◌then◌else◌
 freed_free p = rw (eqb-zero-suc p)
 
 pub freed_at : (p : ℕ) (claims : List Claim) (k : ℕ) → get_or (map (freed p) claims) k free ≡ freed p (get_or claims k free)

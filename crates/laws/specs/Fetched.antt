@@ -8,7 +8,7 @@ use native.Mathlib.Omega.{arith}
 use Rattle.std.proofs.Math.ListN.{length, take}
 use Rattle.std.proofs.Math.Dec.{eqb}
 use borrow.Author.Tests.{ltb-true, ltb-false, eqb-true, eqb-false, not-false}
-use Rattle.definition.specs.Tests.{if◌then◌else◌, ◌when◌, first_of}
+use Rattle.definition.specs.Tests.{provided◌then◌else◌, ◌when◌, first_of}
 use Rattle.definition.specs.Limits.{image_bytes, memory_base, flash_base}
 use Rattle.definition.specs.Board.{Areas, read_only, areas_at, place_of, driver_at, slots_of, has_slot}
 use Rattle.definition.specs.State.{Pair, Process, held, slot_at}
@@ -103,9 +103,9 @@ module _ (p : ℕ) (w : World) (g : Good w.state) (size : length w.memory ≡ im
         held_handed x offset n (placed b g.board p (ltb-true p (length b.processes) (not-false _ on))) hold (ltb-false x.second (offset + n) (passed _ _ _ e4).0)
 
     -- a refused fetch answers another number than 0
-    answer_hands : (x : Part) (t : Bool) → eqb number 0 ≡ t → answer_of p w.state.claims process (if t then answers (fetched 0 handed_back) else answers (fetched number empty_part)) ≡ fetched 0 x
+    answer_hands : (x : Part) (t : Bool) → eqb number 0 ≡ t → answer_of p w.state.claims process (provided t then answers (fetched 0 handed_back) else answers (fetched number empty_part)) ≡ fetched 0 x
         → PartHanded w n x
-    unfolding answer_of if◌then◌else◌
+    unfolding answer_of provided◌then◌else◌
     answer_hands x true q e = let same : handed_back ≡ x = cc in subst (PartHanded w n) same (accepted_hands (eqb-true number 0 q))
     answer_hands x false q e = absurd (eqb-false number 0 q (cc))
 

@@ -5,7 +5,7 @@ use Rattle.std.proofs.Common.{sym, ◌∙◌, arith, get_or-set_other, eq-eqb}
 use Rattle.std.proofs.Math.Bool.{true, false}
 use mathlib.Core.List.{List, [], ◌∷◌, ◌++◌, tail}
 use Rattle.std.proofs.Math.Dec.{eqb}
-use Rattle.definition.specs.Tests.{if◌then◌else◌, Each, none, more}
+use Rattle.definition.specs.Tests.{provided◌then◌else◌, Each, none, more}
 use Rattle.definition.specs.Limits.{max_drivers, max_slots, max_queue, all_slots}
 use Rattle.definition.specs.Board.{Board, Areas, Kind, subscribe, read_write, read_only, driver_at, slots_of}
 use Rattle.definition.specs.State.{Pair, null, Upcall, exited, is_exited, Process, slot_at, cleared}
@@ -61,11 +61,11 @@ tail_length [] = omega arith
 tail_length (u ∷ q) = omega arith
 
 pub cancel_length : (k j : ℕ) (q : List Upcall) → length (cancel k j q) ≤ length q
-unfolding cancel if◌then◌else◌
+unfolding cancel provided◌then◌else◌
 cancel_length k j [] = omega arith
 cancel_length k j (u ∷ q) = go (eqb u.place k && eqb u.slot j) (cancel_length k j q)
   where
-    go : (t : Bool) → length (cancel k j q) ≤ length q → length (if t then cancel k j q else u ∷ cancel k j q) ≤ suc (length q)
+    go : (t : Bool) → length (cancel k j q) ≤ length q → length (provided t then cancel k j q else u ∷ cancel k j q) ≤ suc (length q)
     go true h = omega arith
     go false h = omega arith
 
@@ -97,12 +97,12 @@ module _ (b : Board) (a : Areas) (g : Ground b a) where
   -- what is left after a cancel is of other slots
   cancel_carried : (slots : List Pair) (k j : ℕ) (x : Pair) → k < length b.drivers → j < slots_of subscribe (driver_at b k) → (q : List Upcall) → Each (Carried b slots) q
       → Each (Carried b (set slots (slot_at subscribe k j) x)) (cancel k j q)
-  unfolding cancel if◌then◌else◌
+  unfolding cancel provided◌then◌else◌
   cancel_carried slots k j x hk hj [] none = none
   cancel_carried slots k j x hk hj (u ∷ q) (more c cs) = go (eqb u.place k && eqb u.slot j) refl (cancel_carried slots k j x hk hj q cs)
     where
       go : (t : Bool) → (eqb u.place k && eqb u.slot j) ≡ t → Each (Carried b (set slots (slot_at subscribe k j) x)) (cancel k j q)
-          → Each (Carried b (set slots (slot_at subscribe k j) x)) (if t then cancel k j q else u ∷ cancel k j q)
+          → Each (Carried b (set slots (slot_at subscribe k j) x)) (provided t then cancel k j q else u ∷ cancel k j q)
       go true p ih = ih
       go false p ih = more (carried_other slots subscribe k j x hk hj u c λ e.
           let (_, dk, sj) = same_slot slots subscribe k j x hk hj u c e in clash (and (eq-eqb u.place k dk) (eq-eqb u.slot j sj)) p) ih

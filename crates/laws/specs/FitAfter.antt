@@ -7,7 +7,7 @@ use mathlib.Core.List.{List, [], ◌∷◌, ◌++◌, tail}
 use Rattle.std.proofs.Math.Decide.{dec_lt}
 use Rattle.std.proofs.Math.ListN.{get_or, get_or-eq_default}
 use Rattle.std.proofs.lemmas.List.{length-replicate}
-use Rattle.definition.specs.Tests.{if◌then◌else◌, none, contains}
+use Rattle.definition.specs.Tests.{provided◌then◌else◌, none, contains}
 use Rattle.definition.specs.Limits.{kind_slots, buffer_slots, all_slots}
 use Rattle.definition.specs.Board.{Board, Areas, Kind, read_write}
 use Rattle.definition.specs.State.{Pair, null, Upcall, Status, running, waiting, exited, is_exited, Process, held, slot_at, with_status, with_break, with_queue, cleared}
@@ -115,8 +115,8 @@ module _ (v : View) (process : Process) (g : Ground v.board (areas_of v)) (f : F
   left_fits s x (ended code) = cleared_fits v.board (areas_of v) exited g (λ _. refl)
   left_fits s x (again code) = cleared_fits v.board (areas_of v) running g (λ e. clash e refl)
 
-  awaits_awake : (t : Bool) → is_exited (if t then waiting else running) ≡ false
-  unfolding if◌then◌else◌
+  awaits_awake : (t : Bool) → is_exited (provided t then waiting else running) ≡ false
+  unfolding provided◌then◌else◌
   awaits_awake true = refl
   awaits_awake false = refl
 
@@ -125,7 +125,7 @@ module _ (v : View) (process : Process) (g : Ground v.board (areas_of v)) (f : F
   fits_after a (answers x) w = f
   fits_after a (exchanges kind k j x) w = exchange_fits a kind k j x (w.live refl).awake w.because
   fits_after a (polls address) w = deliver_fits process.status (w.live refl).awake
-  fits_after a awaits w = deliver_fits (if is_empty process.queue then waiting else running) (awaits_awake (is_empty process.queue))
+  fits_after a awaits w = deliver_fits (provided is_empty process.queue then waiting else running) (awaits_awake (is_empty process.queue))
   fits_after a (moves new x) w = moved_fits new (w.live refl).awake w.because.low w.because.high w.because.clears
   fits_after a (leaves s x) w = left_fits s x w.because
   fits_after a (queues u) w = queue_fits a u (w.live refl).awake w.because
@@ -134,11 +134,11 @@ module _ (v : View) (process : Process) (g : Ground v.board (areas_of v)) (f : F
 
   -- ---- what is written
 
-  poll_inside : (address : ℕ) (n : ℕ) → Inside (areas_of v) (if contains (areas_of v).ram_start process.break address then record { address = address; bytes = n ∷ [] } else no_write)
-  unfolding if◌then◌else◌
+  poll_inside : (address : ℕ) (n : ℕ) → Inside (areas_of v) (provided contains (areas_of v).ram_start process.break address then record { address = address; bytes = n ∷ [] } else no_write)
+  unfolding provided◌then◌else◌
   poll_inside address n = go (contains (areas_of v).ram_start process.break address) refl
     where
-      go : (t : Bool) → contains (areas_of v).ram_start process.break address ≡ t → Inside (areas_of v) (if t then record { address = address; bytes = n ∷ [] } else no_write)
+      go : (t : Bool) → contains (areas_of v).ram_start process.break address ≡ t → Inside (areas_of v) (provided t then record { address = address; bytes = n ∷ [] } else no_write)
       go true e = let (low, high) = contains_true (areas_of v).ram_start process.break address e in inside low (omega (arith, f.high, g.grant_high))
       go false e = nowhere refl
 

@@ -2,7 +2,7 @@
 use Rattle.std.specs.Prelude.{ℕ, ◌≡◌, refl, Bool, true, false, not, List, [], ◌∷◌, length, eqb}
 use Rattle.std.proofs.Common.{sym, ap, ◌∙◌, eqb-true}
 use Rattle.std.proofs.lemmas.Bool.{eqb-false, not-false}
-use Rattle.definition.specs.Tests.{if◌then◌else◌, ◌when◌, first_of}
+use Rattle.definition.specs.Tests.{provided◌then◌else◌, ◌when◌, first_of}
 use Rattle.definition.specs.State.{fresh}
 use Rattle.definition.specs.Answer.{refused, started}
 use Rattle.definition.specs.World.{Step, Out}
@@ -43,14 +43,14 @@ pub data Begins (o : Out Lent) : Type 0 where
   no_table : o.answer ≡ refused 2 → well_formed o.after.table ≡ false → Begins o
 
 pub start_begins : (words : List ℕ) (x : Lent) → Begins (start words x)
-unfolding start first_of if◌then◌else◌
+unfolding start first_of provided◌then◌else◌
 start_begins words x = go (eqb (length x.table) table_words) (good_board_words words) refl refl
   where
     after : Lent
     after = record { table = image_of (fresh (board_of words)); memory = x.memory; flash = x.flash }
 
     go : (l g : Bool) → eqb (length x.table) table_words ≡ l → good_board_words words ≡ g
-        → Begins (let n = first_of (2 when not l ∷ 13 when not g ∷ []) in if eqb n 0 then record { answer = started; after = after } else record { answer = refused n; after = x })
+        → Begins (let n = first_of (2 when not l ∷ 13 when not g ∷ []) in provided eqb n 0 then record { answer = started; after = after } else record { answer = refused n; after = x })
     go true true p q = accepted refl (image_well_formed (fresh (board_of words)) (of_good _ (fresh_good (board_of words) (board_fits words q).1)))
     go true false p q = no_board refl
     go false g p q = no_table refl (short_unformed x.table p)

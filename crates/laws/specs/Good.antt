@@ -11,7 +11,7 @@ use Rattle.std.proofs.lemmas.List.{length-replicate}
 use Rattle.std.proofs.Math.Seq.{ext_get_or}
 use Rattle.std.proofs.Math.Dec.{eqb}
 use borrow.Author.Tests.{leb-true, ltb-true, eqb-true, le-leb, lt-ltb, eq-eqb, ne_eqb, not-true}
-use Rattle.definition.specs.Tests.{if◌then◌else◌, Each, none, more, every_below}
+use Rattle.definition.specs.Tests.{provided◌then◌else◌, Each, none, more, every_below}
 use Rattle.definition.specs.Limits.{all_slots}
 use Rattle.definition.specs.Board.{Board, Areas, no_areas, subscribe, areas_at, has_slot, is_shared, good_board}
 use Rattle.definition.specs.State.{Pair, null, is_null, Upcall, no_upcall, Status, running, waiting, exited, is_exited, Process, no_process, held, cleared, Claim, free, State}
@@ -168,10 +168,10 @@ module _ (s : State) (k : ℕ) (c : Claim) where
   of_owner p o = all_hold _ (lt-ltb _ _ o.known, (o.permitted, (ap not o.awake, tt)))
 
   claim_of_lem : good_claim s k c ≡ true → ClaimFits s.board s.processes k c
-  unfolding good_claim if◌then◌else◌
+  unfolding good_claim provided◌then◌else◌
   claim_of_lem e = go (is_shared s.board k) refl e
     where
-      go : (t : Bool) → is_shared s.board k ≡ t → (if t then eqb c.owner 0 || may_own s k (c.owner - 1) else eqb c.owner 0 && eqb c.latch 0) ≡ true
+      go : (t : Bool) → is_shared s.board k ≡ t → (provided t then eqb c.owner 0 || may_own s k (c.owner - 1) else eqb c.owner 0 && eqb c.latch 0) ≡ true
           → ClaimFits s.board s.processes k c
       go true h q = record {
         unshared = λ u. clash h u;
@@ -184,14 +184,14 @@ module _ (s : State) (k : ℕ) (c : Claim) where
           record { unshared = λ _ i. record { owner = owner i; latch = latch i }; owned = λ p o. absurd (omega arith) }
 
   of_claim : ClaimFits s.board s.processes k c → good_claim s k c ≡ true
-  unfolding good_claim if◌then◌else◌
+  unfolding good_claim provided◌then◌else◌
   of_claim f = go (is_shared s.board k) refl
     where
       shared : (n : ℕ) → c.owner ≡ n → (eqb c.owner 0 || may_own s k (c.owner - 1)) ≡ true
       shared zero e = rw e
       shared (suc n) e = or_right (eqb c.owner 0) (may_own s k (c.owner - 1)) (subst (λ m. may_own s k m ≡ true) (omega arith) (of_owner n (f.owned n e)))
 
-      go : (t : Bool) → is_shared s.board k ≡ t → (if t then eqb c.owner 0 || may_own s k (c.owner - 1) else eqb c.owner 0 && eqb c.latch 0) ≡ true
+      go : (t : Bool) → is_shared s.board k ≡ t → (provided t then eqb c.owner 0 || may_own s k (c.owner - 1) else eqb c.owner 0 && eqb c.latch 0) ≡ true
       go true h = shared c.owner refl
       go false h = rw (f.unshared h)
 

@@ -7,7 +7,7 @@ use mathlib.Core.List.{List, [], append_assoc}
 use Rattle.std.proofs.Math.Decide.{dec_lt, ℕ_discrete}
 use Rattle.std.proofs.Math.ListN.{length}
 use borrow.Author.Tests.{ltb-true, lt-ltb, leb-false, le-leb, eqb-true}
-use Rattle.definition.specs.Tests.{if◌then◌else◌}
+use Rattle.definition.specs.Tests.{provided◌then◌else◌}
 use Rattle.definition.specs.Limits.{image_bytes}
 use Rattle.definition.specs.Answer.{number_of}
 use Rattle.definition.specs.Decide.{call, event, resume, deposit, fetch}
@@ -174,7 +174,7 @@ module _ (s : List ℕ) (forward : Forward s) where
         by (before j) e = ap (following w.written) (sym (play_from_lem s w.after endless j (λ z. absurd (omega (arith, (later j e).0)))))
 
     board_whole : (x : Lent) (room : Room) (here : Found (List ℕ)) → read_at board s 0 ≡ here → let w = play_board s x room here in play_board s x endless here ≡ onward w.stop w whole_at
-    unfolding play_board if◌then◌else◌
+    unfolding play_board provided◌then◌else◌
     board_whole x room (found words i) e = by (eqb (number_of (start words x).answer) 13)
       where
         line : List ℕ
@@ -183,8 +183,8 @@ module _ (s : List ℕ) (forward : Forward s) where
         y : Lent
         y = (start words x).after
 
-        by : (bad : Bool) → let w = following line (if bad then played y [] else play_from s y i (less (length line) room)) in
-            following line (if bad then played y [] else play_from s y i endless) ≡ onward w.stop w whole_at
+        by : (bad : Bool) → let w = following line (provided bad then played y [] else play_from s y i (less (length line) room)) in
+            following line (provided bad then played y [] else play_from s y i endless) ≡ onward w.stop w whole_at
         by true = refl
         by false =
             let w = play_from s y i (less (length line) room) in

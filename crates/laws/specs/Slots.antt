@@ -5,7 +5,7 @@ use Rattle.std.proofs.Common.{sym, ◌∙◌, subst}
 use Rattle.std.proofs.Math.Bool.{true, false}
 use native.Mathlib.Omega.{arith}
 use borrow.Author.Tests.{leb-true, lt-ltb, le-ltb, eqb-true}
-use Rattle.definition.specs.Tests.{if◌then◌else◌}
+use Rattle.definition.specs.Tests.{provided◌then◌else◌}
 use Rattle.definition.specs.Limits.{max_drivers, max_slots, kind_slots, all_slots}
 use Rattle.definition.specs.Board.{Board, Areas, Kind, subscribe, read_write, read_only, driver_at, slots_of, has_slot}
 use Rattle.definition.specs.State.{Pair, is_null, kind_number, slot_at}
@@ -40,7 +40,7 @@ module _ (kind : Kind) (k j : ℕ) (hk : k < max_drivers) (hj : j < max_slots) w
       go read_only = omega arith
 
   kind_at_lem : kind_at (slot_at kind k j) ≡ kind
-  unfolding slot_at if◌then◌else◌
+  unfolding slot_at provided◌then◌else◌
   kind_at_lem = go kind
     where
       go : (kind : Kind) → kind_at ((kind_number kind * max_drivers + k) * max_slots + j) ≡ kind
@@ -79,25 +79,25 @@ module _ (b : Board) (a : Areas) (break i : ℕ) where
 
   -- whatever a good slot holds, its kind may hold
   pub slot_holdable : (x : Pair) → good_slot b a break i x ≡ true → holdable (kind_at i) a break x ≡ true
-  unfolding good_slot if◌then◌else◌
+  unfolding good_slot provided◌then◌else◌
   slot_holdable x e = go (has_slot (kind_at i) b (place_at i) (number_at i)) e
     where
-      go : (t : Bool) → (if t then holdable (kind_at i) a break x else is_null x) ≡ true → holdable (kind_at i) a break x ≡ true
+      go : (t : Bool) → (provided t then holdable (kind_at i) a break x else is_null x) ≡ true → holdable (kind_at i) a break x ≡ true
       go true q = q
       go false q = null_holdable (kind_at i) a break x q
 
   -- a good slot stays good where what it holds may still be held
   pub slot_carry : (new : ℕ) (x : Pair) → (holdable (kind_at i) a break x ≡ true → holdable (kind_at i) a new x ≡ true) → good_slot b a break i x ≡ true → good_slot b a new i x ≡ true
-  unfolding good_slot if◌then◌else◌
+  unfolding good_slot provided◌then◌else◌
   slot_carry new x f e = go (has_slot (kind_at i) b (place_at i) (number_at i)) e
     where
-      go : (t : Bool) → (if t then holdable (kind_at i) a break x else is_null x) ≡ true → (if t then holdable (kind_at i) a new x else is_null x) ≡ true
+      go : (t : Bool) → (provided t then holdable (kind_at i) a break x else is_null x) ≡ true → (provided t then holdable (kind_at i) a new x else is_null x) ≡ true
       go true q = f q
       go false q = q
 
 -- a subscribe slot does not mind where the break is
 pub slot_low : (b : Board) (a : Areas) (break new i : ℕ) (x : Pair) → i < kind_slots → good_slot b a break i x ≡ true → good_slot b a new i x ≡ true
-unfolding if◌then◌else◌ holdable
+unfolding provided◌then◌else◌ holdable
 slot_low b a break new i x h =
     let low : kind_at i ≡ subscribe = rw (lt-ltb i kind_slots h) in
     slot_carry b a break i new x (λ e. subst (λ n. holdable n a new x ≡ true) (sym low) (subst (λ n. holdable n a break x ≡ true) low e))

@@ -5,7 +5,7 @@ use Rattle.std.proofs.Common.{◌∙◌, eqb-true}
 use Rattle.std.proofs.Math.ListN.{set}
 use Rattle.std.proofs.Math.Seq.{set-get_or}
 use Rattle.std.proofs.lemmas.Bool.{not-false}
-use Rattle.definition.specs.Tests.{if◌then◌else◌}
+use Rattle.definition.specs.Tests.{provided◌then◌else◌}
 use Rattle.definition.specs.State.{Status, no_process, Upcall, Claim, free}
 use Rattle.definition.specs.Answer.{Answer, nothing, waits, failure, success, success_with1, RESERVE, changes_nothing}
 use Rattle.definition.specs.Call.{aside, decode}
@@ -29,12 +29,12 @@ left_tells (again code) = refl
 
 -- a command that fails leaves the claim
 claim_kept : (p n : ℕ) (c : Claim) → changes_nothing (command_answer p n c) ≡ true → after_command p n c ≡ c
-unfolding command_answer after_command if◌then◌else◌
+unfolding command_answer after_command provided◌then◌else◌
 claim_kept p n c e = go (eqb n 1) (is_free c) (owns p c) (eqb n 2) e
   where
     go : (one free mine two : Bool)
-        → changes_nothing (if one then (if free || mine then success else failure RESERVE) else if not mine then failure RESERVE else if two then success else success_with1 c.latch) ≡ true
-        → (if one && free then with_owner (suc p) c else if two && mine then with_owner 0 c else c) ≡ c
+        → changes_nothing (provided one then (provided free || mine then success else failure RESERVE) else provided not mine then failure RESERVE else provided two then success else success_with1 c.latch) ≡ true
+        → (provided one && free then with_owner (suc p) c else provided two && mine then with_owner 0 c else c) ≡ c
     go true true mine two q = clash q refl
     go true false true two q = clash q refl
     go true false false true q = refl

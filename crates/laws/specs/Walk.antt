@@ -5,7 +5,7 @@ use Rattle.std.proofs.Common.{ap, ◌∙◌, arith}
 use Rattle.std.proofs.Math.Bool.{true, false}
 use Rattle.std.proofs.Math.Dec.{ltb}
 use borrow.Author.Tests.{leb-true, ltb-true, ltb-false, eqb-true, leb-false, lt-ltb, not-false}
-use Rattle.definition.specs.Tests.{if◌then◌else◌, first_of}
+use Rattle.definition.specs.Tests.{provided◌then◌else◌, first_of}
 use Rattle.definition.specs.Board.{Board, Kind, subscribe, read_write, read_only, place_of, installed, is_shared, has_slot, permits, reach}
 use Rattle.definition.specs.State.{Pair, Process}
 use Rattle.definition.specs.Answer.{Answer, changes_nothing}
@@ -38,8 +38,8 @@ unfolding has_slot
 slot_of kind b driver j i s = record { place = refl; installed = ltb-true _ _ i; exists = ltb-true _ _ s }
 
 module _ (v : View) (process : Process) (a : Action) (live : Live v process) where
-  choose : {x y : Outcome} (t : Bool) → (t ≡ true → Why v process a x) → (t ≡ false → Why v process a y) → Why v process a (if t then x else y)
-  unfolding if◌then◌else◌
+  choose : {x y : Outcome} (t : Bool) → (t ≡ true → Why v process a x) → (t ≡ false → Why v process a y) → Why v process a (provided t then x else y)
+  unfolding provided◌then◌else◌
   choose true f g = f refl
   choose false f g = g refl
 
@@ -82,8 +82,8 @@ module _ (v : View) (process : Process) (live : Live v process) (class r0 r1 r2 
   record Decided (d : Decoded) : Type 0 where
     why : Why v process (call class r0 r1 r2 r3) (decide_call v process d)
 
-  pick : {x y : Decoded} (t : Bool) → (t ≡ true → Decided x) → (t ≡ false → Decided y) → Decided (if t then x else y)
-  unfolding if◌then◌else◌
+  pick : {x y : Decoded} (t : Bool) → (t ≡ true → Decided x) → (t ≡ false → Decided y) → Decided (provided t then x else y)
+  unfolding provided◌then◌else◌
   pick true f g = f refl
   pick false f g = g refl
 
@@ -169,9 +169,9 @@ accepted_why v process a e =
     go (fetch driver j offset n) live e = plain _ refl
 
 pub why : (v : View) (process : Process) (a : Action) → Why v process a (decide v process a)
-unfolding decide if◌then◌else◌
+unfolding decide provided◌then◌else◌
 why v process a = go (eqb (refusal v process a) 0) refl
   where
-    go : (t : Bool) → eqb (refusal v process a) 0 ≡ t → Why v process a (if t then decide_accepted v process a else answers (refuse a (refusal v process a)))
+    go : (t : Bool) → eqb (refusal v process a) 0 ≡ t → Why v process a (provided t then decide_accepted v process a else answers (refuse a (refusal v process a)))
     go true e = accepted_why v process a (eqb-true _ 0 e)
     go false e = plain _ (refuse_plain a _)

@@ -6,7 +6,7 @@ use mathlib.Core.List.{List, [], ◌∷◌}
 use native.Mathlib.Omega.{arith}
 use lib.ListN.{get_or}
 use borrow.Author.Tests.{eq-eqb, ne_eqb, lt-ltb, le-ltb}
-use Rattle.definition.specs.Tests.{if◌then◌else◌, Row, ◌when◌, first_of}
+use Rattle.definition.specs.Tests.{provided◌then◌else◌, Row, ◌when◌, first_of}
 use Rattle.definition.specs.Board.{Kind, subscribe, read_write, read_only, areas_at, place_of, installed, has_slot}
 use Rattle.definition.specs.State.{Pair, held}
 use Rattle.definition.specs.Area.{Area, area_of}
@@ -28,7 +28,7 @@ left_for read_only = 0
 
 module _ (t : List ℕ) (p k j : ℕ) where
   pub no_process_lem : (kind : Kind) → get_or t 0 0 ≤ p → 3 ≡ first_of (question_rows kind (state_of t).board p k j)
-  unfolding first_of if◌then◌else◌
+  unfolding first_of provided◌then◌else◌
   no_process_lem kind h = rw (processes_so t, le-ltb p (get_or t 0 0) h)
 
   module _ (known : p < get_or t 0 0) (n : ℕ) where
@@ -36,11 +36,11 @@ module _ (t : List ℕ) (p k j : ℕ) where
     last_rows kind = 7 when not (installed (state_of t).board k) ∷ 8 when not (has_buffer kind (state_of t).board k j) ∷ []
 
     past_process : (kind : Kind) → first_of (question_rows kind (state_of t).board p k j) ≡ first_of (last_rows kind)
-    unfolding first_of if◌then◌else◌ last_rows
+    unfolding first_of provided◌then◌else◌ last_rows
     past_process kind = rw (processes_so t, lt-ltb p (get_or t 0 0) known)
 
     pub named_refused : (kind : Kind) → n ≡ named_refusal kind (state_of t) k j → (n ≡ 0 → ⊥) → n ≡ first_of (question_rows kind (state_of t).board p k j)
-    unfolding first_of if◌then◌else◌ last_rows has_buffer
+    unfolding first_of provided◌then◌else◌ last_rows has_buffer
     named_refused kind e h = go kind (installed (state_of t).board k) (has_slot kind (state_of t).board k j) refl refl e ∙ sym (past_process kind)
       where
         go : (kind : Kind) (i s : Bool) → installed (state_of t).board k ≡ i → has_slot kind (state_of t).board k j ≡ s → n ≡ first_of (7 when not i ∷ 8 when not s ∷ []) → n ≡ first_of (last_rows kind)
@@ -51,7 +51,7 @@ module _ (t : List ℕ) (p k j : ℕ) where
         go kind true true q r e = absurd (h e)
 
     named_there : (kind : Kind) → n ≡ named_refusal kind (state_of t) k j → n ≡ 0 → left_for kind ≡ first_of (question_rows kind (state_of t).board p k j)
-    unfolding first_of if◌then◌else◌ last_rows has_buffer
+    unfolding first_of provided◌then◌else◌ last_rows has_buffer
     named_there kind e z = go kind (installed (state_of t).board k) (has_slot kind (state_of t).board k j) refl refl (sym z ∙ e) ∙ sym (past_process kind)
       where
         go : (kind : Kind) (i s : Bool) → installed (state_of t).board k ≡ i → has_slot kind (state_of t).board k j ≡ s → 0 ≡ first_of (7 when not i ∷ 8 when not s ∷ []) → left_for kind ≡ first_of (last_rows kind)
@@ -68,21 +68,21 @@ module _ (t : List ℕ) (p k j : ℕ) where
 
 module _ (t : List ℕ) (kind : Kind) (p driver j k n : ℕ) (at : k ≡ place_of (board_at t drivers_from).drivers driver) (rows : n ≡ first_of (question_rows kind (state_of t).board p k j)) where
   pub asked_refused : (n ≡ 0 → ⊥) → refused n ≡ located kind p driver j (state_of t)
-  unfolding located if◌then◌else◌
+  unfolding located provided◌then◌else◌
   asked_refused h = rw (sym (at ∙ place_so t driver), sym rows, ne_eqb n 0 h)
 
   pub asked_told : n ≡ 0 → (y : Pair) (area : Area) → y ≡ held kind (process_at (state_of t) p) k j → area ≡ area_of (areas_at (state_of t).board p) (process_at (state_of t) p).break y
       → lies area y ≡ located kind p driver j (state_of t)
-  unfolding located if◌then◌else◌
+  unfolding located provided◌then◌else◌
   asked_told z y area reads here =
       rw (sym (at ∙ place_so t driver), sym rows, eq-eqb n 0 z) (ap₂ lies (here ∙ ap (area_of (areas_at (state_of t).board p) (process_at (state_of t) p).break) reads) reads)
 
 -- row 2 stands before it
 module _ (t : List ℕ) (kind : Kind) (p driver j : ℕ) where
   pub no_table_lem : well_formed t ≡ false → refused 2 ≡ locate kind p driver j t
-  unfolding locate if◌then◌else◌
+  unfolding locate provided◌then◌else◌
   no_table_lem e = rw e
 
   pub on_table_lem : well_formed t ≡ true → located kind p driver j (state_of t) ≡ locate kind p driver j t
-  unfolding locate if◌then◌else◌
+  unfolding locate provided◌then◌else◌
   on_table_lem e = rw e

@@ -11,7 +11,7 @@ use lib.Seq.{length-take-le, take-add, drop-drop, get_or-drop}
 use lib.Dec.{eqb}
 use borrow.Author.Tests.{eqb-true, eq-eqb}
 use borrow.Rule.Slice.PartMut.{mid_of, put_mid}
-use Rattle.definition.specs.Tests.{if◌then◌else◌}
+use Rattle.definition.specs.Tests.{provided◌then◌else◌}
 use Rattle.definition.specs.State.{Upcall, no_upcall, with_queue}
 use Rattle.definition.specs.Words.{part, grid}
 use Rattle.definition.specs.Image.{upcall_words, read_upcall, words_in_upcall, queue_from, process_words}
@@ -71,7 +71,7 @@ found_below f n t {i = i} e q =
 -- ---- the rows from the i-th on
 
 cancel_none : (k j : ℕ) (q : List Upcall) → NoneBelow (length q) (is_of k j) q → cancel k j q ≡ q
-unfolding cancel if◌then◌else◌
+unfolding cancel provided◌then◌else◌
 cancel_none k j [] h = refl
 cancel_none k j (u ∷ q) h = rw (h 0 (omega arith)) (ap (λ (r : List Upcall). u ∷ r) (cancel_none k j q (λ m b. h (suc m) (omega arith))))
 

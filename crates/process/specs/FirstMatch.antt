@@ -1,6 +1,6 @@
 -- The first upcall of a queue that passes a test: where it stands.
 use Rattle.std.specs.Prelude.{ℕ, suc, ◌<◌, ◌≡◌, Bool, true, false, ◌&&◌, List, [], ◌∷◌, length, get_or, eqb}
-use Rattle.definition.specs.Tests.{if◌then◌else◌}
+use Rattle.definition.specs.Tests.{provided◌then◌else◌}
 use Rattle.definition.specs.State.{Upcall, no_upcall}
 use Rattle.process.specs.declared.queue.Match.{Match}
 use Rattle.process.specs.declared.queue.Match.TheVariants.{At, None}
@@ -16,7 +16,7 @@ further None = None
 
 unfoldable pub first_match : (Upcall → Bool) → List Upcall → Match
 first_match f [] = None
-first_match f (u ∷ q) = if f u then At 0 else further (first_match f q)
+first_match f (u ∷ q) = provided f u then At 0 else further (first_match f q)
 
 -- ---- what that says
 

@@ -7,7 +7,7 @@ use Rattle.std.proofs.Math.Bool.{true, false}
 use mathlib.Core.List.{List, [], ◌∷◌}
 use native.Mathlib.Omega.{arith}
 use Rattle.std.proofs.Math.Decide.{dec_lt}
-use Rattle.definition.specs.Tests.{if◌then◌else◌}
+use Rattle.definition.specs.Tests.{provided◌then◌else◌}
 use Rattle.definition.specs.State.{Upcall, no_upcall}
 use Rattle.laws.specs.Facts.{clash}
 use Rattle.process.specs.FirstMatch.{further, first_match, NoneBelow, IsFirst}
@@ -36,11 +36,11 @@ module _ (f : Upcall → Bool) where
     is_further u q None e h = none_more u q (length q) e h
 
     first_is : (q : List Upcall) → IsFirst f q (first_match f q)
-    unfolding first_match if◌then◌else◌
+    unfolding first_match provided◌then◌else◌
     first_is [] = λ m b. absurd (not-suc-le-zero b)
     first_is (u ∷ q) = go (f u) refl (first_is q)
       where
-        go : (t : Bool) → f u ≡ t → IsFirst f q (first_match f q) → IsFirst f (u ∷ q) (if t then At 0 else further (first_match f q))
+        go : (t : Bool) → f u ≡ t → IsFirst f q (first_match f q) → IsFirst f (u ∷ q) (provided t then At 0 else further (first_match f q))
         go true e h = (omega arith, e, λ m b. absurd (not-suc-le-zero b))
         go false e h = is_further u q (first_match f q) e h
 

@@ -9,7 +9,7 @@ use Rattle.std.proofs.Math.Logic.Iff as Iff
 use Rattle.std.proofs.Math.Logic.{and-true}
 use Rattle.std.proofs.Math.Bool.{true, false}
 use Rattle.std.proofs.lemmas.Bool.{lt-leb}
-use Rattle.definition.specs.Tests.{if◌then◌else◌}
+use Rattle.definition.specs.Tests.{provided◌then◌else◌}
 use Rattle.definition.specs.Limits.{buffer_slots}
 use Rattle.definition.specs.Board.{Kind, subscribe, read_write, read_only, driver_at, slots_of, is_shared, has_slot, permits, reach}
 use Rattle.definition.specs.State.{Pair, Upcall, held, Claim}
@@ -90,14 +90,14 @@ module _ (w : World) (good : good_state w.state ≡ true) (p : ℕ) (S : Answer 
 
   -- command 0
   exists_told : (driver x y : ℕ) → S success → S (answer_to w p 2 driver 0 x y) ↔ (Commands w p driver)
-  unfolding decode decide_call decide_known decide_command decide_command_at view_of answer_of if◌then◌else◌
+  unfolding decode decide_call decide_known decide_command decide_command_at view_of answer_of provided◌then◌else◌
   exists_told driver x y s = Iff.trans (call_told 2 driver 0 x y _ refl (permitted_told driver _ _ (λ k. Unit {0}) refl (λ _. tt, λ _. s)))
       (λ h. record { caller = h.0; place = h.1.0; permitted = h.1.1 }, λ e. (e.caller, (e.place, e.permitted, tt)))
 
   -- commands 1 to 3
   shared_told : (driver number x y : ℕ) (Owner : ℕ → Type 0) → eqb number 0 ≡ false → leb number 3 ≡ true
       → S (command_answer p number (claim_in w (place_to w driver))) ↔ Owner (claim_in w (place_to w driver)).owner → S (answer_to w p 2 driver number x y) ↔ (SharedCommands w p driver Owner)
-  unfolding By decode decide_call decide_known decide_command decide_command_at view_of is_shared answer_of if◌then◌else◌
+  unfolding By decode decide_call decide_known decide_command decide_command_at view_of is_shared answer_of provided◌then◌else◌
   shared_told driver number x y Owner e f g = Iff.trans (call_told 2 driver number x y _ refl (permitted_told driver _ _ owned refl
       (rw (e, f) (unless_told By _ _ _ (not_told _ (eq_told _ 0)) (fails S only _ refl) g))))
       (λ h. record { caller = h.0; place = h.1.0; permitted = h.1.1; shared = h.1.2.0; owner = h.1.2.1 }, λ e. (e.caller, (e.place, e.permitted, (e.shared, e.owner))))
@@ -106,19 +106,19 @@ module _ (w : World) (good : good_state w.state ≡ true) (p : ℕ) (S : Answer 
       owned k = ((driver_at w.state.board k).shared ≢ 0) × Owner (claim_in w k).owner
 
   claim_told : (driver x y : ℕ) → S success → S (answer_to w p 2 driver 1 x y) ↔ (SharedCommands w p driver (λ owner. (owner ≡ 0) ⊎ (owner ≡ suc p)))
-  unfolding command_answer if◌then◌else◌
+  unfolding command_answer provided◌then◌else◌
   claim_told driver x y s = shared_told driver 1 x y _ refl refl (if_holds S _ _ _ (or_told _ _ (eq_told _ 0) (eq_told _ (suc p))) s (fails S only _ refl))
 
   -- commands 2 and 3 answer x to the owner
-  owner_told : (x : Answer) (c : Claim) → S x → S (if not (owns p c) then failure RESERVE else x) ↔ (c.owner ≡ suc p)
+  owner_told : (x : Answer) (c : Claim) → S x → S (provided not (owns p c) then failure RESERVE else x) ↔ (c.owner ≡ suc p)
   owner_told x c s = unless_holds S _ _ _ (eq_told _ (suc p)) (fails S only _ refl) s
 
   release_told : (driver x y : ℕ) → S success → S (answer_to w p 2 driver 2 x y) ↔ (SharedCommands w p driver (λ owner. owner ≡ suc p))
-  unfolding command_answer if◌then◌else◌
+  unfolding command_answer provided◌then◌else◌
   release_told driver x y s = shared_told driver 2 x y _ refl refl (owner_told _ (claim_in w (place_to w driver)) s)
 
   read_told : (driver x y : ℕ) → S (success_with1 (claim_in w (place_to w driver)).latch) → S (answer_to w p 2 driver 3 x y) ↔ (SharedCommands w p driver (λ owner. owner ≡ suc p))
-  unfolding command_answer if◌then◌else◌
+  unfolding command_answer provided◌then◌else◌
   read_told driver x y s = shared_told driver 3 x y _ refl refl (owner_told _ (claim_in w (place_to w driver)) s)
 
   break_told : {E : Type 0} (answer : Answer) (new : ℕ) (exact : Bool) → S answer → Tells exact E
@@ -129,7 +129,7 @@ module _ (w : World) (good : good_state w.state ≡ true) (p : ℕ) (S : Answer 
       s (fails S only _ refl)
 
   break_to_told : (new x y : ℕ) → S success → S (answer_to w p 5 0 new x y) ↔ (BreakMoves w p new)
-  unfolding decode decode_memop decide_call decide_known if◌then◌else◌
+  unfolding decode decode_memop decide_call decide_known provided◌then◌else◌
   break_to_told new x y s = Iff.trans (call_told 5 0 new x y _ refl (break_told success new true s (λ _. tt {0}, λ _. refl)))
       (λ h. moves_of h.0 h.1.1, λ b. (b.caller, (tt, may_move_lem b)))
 
@@ -143,14 +143,14 @@ module _ (w : World) (good : good_state w.state ≡ true) (p : ℕ) (S : Answer 
 
   break_by_told : (change x y : ℕ) → change < 2 ^ 32 → S (success_with1 (process_in w p).break)
       → S (answer_to w p 5 1 change x y) ↔ ((new : ℕ) × MovedBy (process_in w p).break change new × BreakMoves w p new)
-  unfolding decode decode_memop decide_call decide_known decide_break_by if◌then◌else◌
+  unfolding decode decode_memop decide_call decide_known decide_break_by provided◌then◌else◌
   break_by_told change x y small s = Iff.trans (call_told 5 1 change x y _ refl (go (ltb change (2 ^ 31)) refl))
       (λ h. (h.1.0, h.1.1, moves_of h.0 h.1.2), λ h. (h.2.caller, (h.0, h.1, may_move_lem h.2)))
     where
       old : ℕ
       old = (process_in w p).break
 
-      go : (t : Bool) → ltb change (2 ^ 31) ≡ t → S (answer_by w p (if t then decide_break (view_of w p) (process_in w p) (success_with1 old) (old + change) true
+      go : (t : Bool) → ltb change (2 ^ 31) ≡ t → S (answer_by w p (provided t then decide_break (view_of w p) (process_in w p) (success_with1 old) (old + change) true
           else decide_break (view_of w p) (process_in w p) (success_with1 old) (old - (2 ^ 32 - change)) (leb (2 ^ 32 - change) old)))
           ↔ ((new : ℕ) × MovedBy old change new × MayMove w p new)
       go true e = moved_told change _ _ (Unit {0}) (λ _. tt, λ _. refl) (λ _. inl (ltb-true _ _ e, refl)) (λ n m. (tt, moved_up old change n (ltb-true _ _ e) m)) s
@@ -164,9 +164,9 @@ module _ (w : World) (good : good_state w.state ≡ true) (p : ℕ) (S : Answer 
 
 module _ (w : World) (p : ℕ) where
   exit_accepts : (code : ℕ) (s t : Bool)
-      → is_accepted (answer_by w p (decide_call (view_of w p) (process_in w p) (if s then known (exit_terminate code) else if t then known (exit_restart code) else aside (failure NOSUPPORT))))
+      → is_accepted (answer_by w p (decide_call (view_of w p) (process_in w p) (provided s then known (exit_terminate code) else provided t then known (exit_restart code) else aside (failure NOSUPPORT))))
       ≡ (s || t)
-  unfolding decide_call decide_known answer_of if◌then◌else◌
+  unfolding decide_call decide_known answer_of provided◌then◌else◌
   exit_accepts code true t = refl
   exit_accepts code false true = refl
   exit_accepts code false false = refl
@@ -202,7 +202,7 @@ module _ (w : World) (p : ℕ) where
 -- ---- all calls
 
 pub accepted_exactly : Acceptance
-unfolding decode decode_exit decide_call decide_known answer_of if◌then◌else◌
+unfolding decode decode_exit decide_call decide_known answer_of provided◌then◌else◌
 accepted_exactly w good p = record {
   exchange = λ kind driver j x y. exchange_told w good p _ any_success kind driver j x y refl;
   exchange_answer = λ kind driver j x y e. subst (λ k. answer_to w p (class_of kind) driver j x y ≡ success_with2 (held kind (process_in w p) k j)) (one_place w good e.permitted)

@@ -3,7 +3,7 @@ use Rattle.std.specs.Prelude.{ℕ, suc, ◌+◌, ◌*◌, ◌-◌, ◌/◌, ◌%
 use Rattle.std.proofs.Math.Path.{refl}
 use Rattle.std.proofs.Common.{sym, ap, ◌∙◌, subst, arith}
 use Rattle.std.proofs.Math.Decide.{dec_lt, ℕ_discrete}
-use Rattle.definition.specs.Tests.{if◌then◌else◌, Each, every_below}
+use Rattle.definition.specs.Tests.{provided◌then◌else◌, Each, every_below}
 use Rattle.definition.specs.Limits.{max_drivers, max_slots, kind_slots, buffer_slots}
 use Rattle.definition.specs.Board.{Areas, Kind, subscribe, read_write, read_only}
 use Rattle.definition.specs.State.{Pair, null, Upcall, Process, held, slot_at}
@@ -86,7 +86,7 @@ module _ (k : ℕ) (hk : k < max_drivers) (process process' : Process) (r : Besi
 -- ---- what a call may put into a slot, and where the break may move
 
 clears_null : (a : Areas) (break new : ℕ) → clears a break new null ≡ true
-unfolding clears area_of if◌then◌else◌
+unfolding clears area_of provided◌then◌else◌
 clears_null a break new = refl
 
 module _ (k : ℕ) (a : Areas) (process process' : Process) (r : Beside k process process') where

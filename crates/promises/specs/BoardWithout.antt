@@ -7,7 +7,7 @@ use Rattle.std.proofs.Math.Decide.{dec_lt, ℕ_discrete}
 use Rattle.std.proofs.Math.ListN.{length, length-map, get_or-map, get_or-eq_default}
 use Rattle.std.proofs.Math.Dec.{ltb, eqb}
 use borrow.Author.Tests.{leb-true, ltb-true, ltb-false, eqb-false, le-leb, lt-ltb, le-ltb, eq-eqb, ne_eqb, not-true}
-use Rattle.definition.specs.Tests.{if◌then◌else◌}
+use Rattle.definition.specs.Tests.{provided◌then◌else◌}
 use Rattle.definition.specs.Limits.{max_drivers}
 use Rattle.definition.specs.Board.{Board, Areas, no_areas, Driver, no_driver, Kind, areas_at, driver_at, slots_of, place_of, installed, is_shared, has_slot, permits, Reached, at_place, absent, reach, disjoint, ram_disjoint, flash_disjoint, good_areas, good_driver, good_board}
 use Rattle.definition.specs.Decide.{call}
@@ -20,18 +20,18 @@ use Rattle.promises.specs.TakenOut.{down, up, up_apart, up_rises, up_below, down
 -- ---- a driver's place
 
 place_low : (k : ℕ) (ds : List Driver) (n : ℕ) → place_of ds n ≢ k → place_of (drop_at k ds) n ≡ down k (place_of ds n)
-unfolding place_of drop_at down if◌then◌else◌
+unfolding place_of drop_at down provided◌then◌else◌
 place_low zero [] n e = refl
 place_low (suc k) [] n e = refl
 place_low zero (d ∷ ds) n e = go (eqb d.number n) e
   where
-    go : (t : Bool) → (if t then 0 else suc (place_of ds n)) ≢ zero → place_of ds n ≡ down zero (if t then 0 else suc (place_of ds n))
+    go : (t : Bool) → (provided t then 0 else suc (place_of ds n)) ≢ zero → place_of ds n ≡ down zero (provided t then 0 else suc (place_of ds n))
     go true q = absurd (q refl)
     go false q = refl
 place_low (suc k) (d ∷ ds) n e = go (eqb d.number n) e (place_low k ds n)
   where
-    go : (t : Bool) → (if t then 0 else suc (place_of ds n)) ≢ suc k → (place_of ds n ≢ k → place_of (drop_at k ds) n ≡ down k (place_of ds n))
-        → (if t then 0 else suc (place_of (drop_at k ds) n)) ≡ down (suc k) (if t then 0 else suc (place_of ds n))
+    go : (t : Bool) → (provided t then 0 else suc (place_of ds n)) ≢ suc k → (place_of ds n ≢ k → place_of (drop_at k ds) n ≡ down k (place_of ds n))
+        → (provided t then 0 else suc (place_of (drop_at k ds) n)) ≡ down (suc k) (provided t then 0 else suc (place_of ds n))
     go true q ih = refl
     go false q ih = ap suc (ih (λ z. q (ap suc z)))
 
@@ -119,13 +119,13 @@ module _ (k : ℕ) (b : Board) (hk : k < length b.drivers) where
     module _ (p : ℕ) (denied : permits (areas_at b p) k ≡ false) where
       -- the same drivers, each at the place where it stands now
       pub reach_down : (driver : ℕ) → reach (board_without k b) (areas_at (board_without k b) p) driver ≡ lower k (reach b (areas_at b p) driver)
-      unfolding reach if◌then◌else◌
+      unfolding reach provided◌then◌else◌
       reach_down driver = elim (ℕ_discrete (place_of b.drivers driver) k) [
         | yes e ↦ rw (place_gone driver e, e, lt-ltb k (length b.drivers) hk, denied)
         | no ne ↦ rw (place_down k b driver ne, installed_down (place_of b.drivers driver) ne, permits_down k b p (place_of b.drivers driver) ne) (go (installed b (place_of b.drivers driver) && permits (areas_at b p) (place_of b.drivers driver)))
       ]
         where
-          go : (t : Bool) → (if t then at_place (down k (place_of b.drivers driver)) else absent) ≡ lower k (if t then at_place (place_of b.drivers driver) else absent)
+          go : (t : Bool) → (provided t then at_place (down k (place_of b.drivers driver)) else absent) ≡ lower k (provided t then at_place (place_of b.drivers driver) else absent)
           go true = refl
           go false = refl
 

@@ -4,7 +4,7 @@ use Rattle.std.specs.Prelude.{ℕ, ◌+◌, ◌-◌, ◌/◌, ◌%◌, ◌^◌, 
 use Rattle.std.proofs.Common.{sym, ap, subst, inl, inr, arith, ltb-true, lt-ltb}
 use Rattle.std.proofs.Math.Logic.Iff as Iff
 use Rattle.std.proofs.lemmas.Bool.{not-false}
-use Rattle.definition.specs.Tests.{if◌then◌else◌}
+use Rattle.definition.specs.Tests.{provided◌then◌else◌}
 use Rattle.definition.specs.Limits.{buffer_slots}
 use Rattle.definition.specs.Board.{Areas, Kind, subscribe, read_write, read_only, place_of}
 use Rattle.definition.specs.State.{Pair, Status, running, waiting, exited, is_exited, is_waiting, Process}
@@ -91,7 +91,7 @@ answer_by w p o = answer_of p w.state.claims (process_in w p) o
 
 pub call_answer : (w : World) (p class r0 r1 r2 r3 : ℕ) → IsRunning w p
     → answer_to w p class r0 r1 r2 r3 ≡ answer_by w p (decide_call (view_of w p) (process_in w p) (decode class r0 r1 r2 r3))
-unfolding step perform decide decide_accepted if◌then◌else◌
+unfolding step perform decide decide_accepted provided◌then◌else◌
 call_answer w p class r0 r1 r2 r3 r = rw ((running_told w p class r0 r1 r2 r3).1 r)
 
 abbrev pub place_to : World → ℕ → ℕ

@@ -9,7 +9,7 @@ use Rattle.std.proofs.Math.ListN.{length}
 use Rattle.std.proofs.lemmas.List.{length-map}
 use Rattle.std.proofs.Math.Dec.{ltb, eqb}
 use borrow.Author.Tests.{ltb-true, ltb-false, eqb-true, not-false}
-use Rattle.definition.specs.Tests.{if◌then◌else◌, Row, ◌when◌, first_of}
+use Rattle.definition.specs.Tests.{provided◌then◌else◌, Row, ◌when◌, first_of}
 use Rattle.definition.specs.Limits.{max_drivers, max_slots, max_queue}
 use Rattle.definition.specs.Board.{Board, Kind, subscribe, read_write, areas_at, driver_at, slots_of, place_of, installed, is_shared, has_slot, permits, Reached, at_place, absent, reach, good_board}
 use Rattle.definition.specs.State.{Pair, null, is_exited, Process, held}
@@ -47,7 +47,7 @@ asks_not b class r0 r1 r2 r3 e =
     pick _ _ _ (λ _. pick _ _ _ (λ _. refl) λ _. pick _ _ _ (λ _. refl) λ _. refl) λ _. pick _ _ _ (λ _. refl) λ _. pick _ _ _ (λ q. rw q at e) λ _. pick _ _ _ (λ _. refl) λ _. pick _ _ _ (λ _. refl) λ _.
     pick _ _ _ (λ _. pick _ _ _ (λ _. refl) λ _. pick _ _ _ (λ _. refl) λ _. pick _ _ _ (λ _. refl) λ _. refl) λ _. pick _ _ _ (λ _. pick _ _ _ (λ _. refl) λ _. pick _ _ _ (λ _. refl) λ _. refl) λ _. refl
   where
-    pick : (t : Bool) (x y : Decoded) → (t ≡ true → asks b x ≡ false) → (t ≡ false → asks b y ≡ false) → asks b (if t then x else y) ≡ false
+    pick : (t : Bool) (x y : Decoded) → (t ≡ true → asks b x ≡ false) → (t ≡ false → asks b y ≡ false) → asks b (provided t then x else y) ≡ false
     pick t x y f g = either (λ d. asks b d ≡ false) t x y f g
 
 module _ (k a : ℕ) (b : Board) (good : good_board b ≡ true) (hk : k < length b.drivers) (denied : permits (areas_at b a) k ≡ false) (ram flash : List ℕ)
@@ -61,8 +61,8 @@ module _ (k a : ℕ) (b : Board) (good : good_board b ≡ true) (hk : k < length
   abbrev v' : View
   v' = record { self = a; board = b'; ram = ram; flash_image = flash }
 
-  choose : {t : Bool} {x y x' y' : Outcome} (s : Bool) → (s ≡ true → Match k t x x') → (s ≡ false → Match k t y y') → Match k t (if s then x else y) (if s then x' else y')
-  unfolding if◌then◌else◌
+  choose : {t : Bool} {x y x' y' : Outcome} (s : Bool) → (s ≡ true → Match k t x x') → (s ≡ false → Match k t y y') → Match k t (provided s then x else y) (provided s then x' else y')
+  unfolding provided◌then◌else◌
   choose true f g = f refl
   choose false f g = g refl
 
@@ -105,7 +105,7 @@ module _ (k a : ℕ) (b : Board) (good : good_board b ≡ true) (hk : k < length
   break_by_match : (change : ℕ) → Match k true (decide_break_by v process change) (decide_break_by v' process' change)
   unfolding decide_break_by
   break_by_match change = subst (λ old. Match k true (decide_break_by v process change)
-      (if ltb change (2 ^ 31) then decide_break v' process' (success_with1 old) (old + change) true else decide_break v' process' (success_with1 old) (old - (2 ^ 32 - change)) (leb (2 ^ 32 - change) old)))
+      (provided ltb change (2 ^ 31) then decide_break v' process' (success_with1 old) (old + change) true else decide_break v' process' (success_with1 old) (old - (2 ^ 32 - change)) (leb (2 ^ 32 - change) old)))
       r.break (choose _ (λ _. break_match _ _ _) λ _. break_match _ _ _)
 
   known_match : (c : Call) → asks b' (known c) ≡ false → Match k true (decide_known v process c) (decide_known v' process' c)
@@ -129,7 +129,7 @@ module _ (k a : ℕ) (b : Board) (good : good_board b ≡ true) (hk : k < length
 
   refusal_match : (x : Action) → first_of (action_rows v process x) ≡ first_of (action_rows v' process' x) → refusal v process x ≡ refusal v' process' x
   unfolding refusal first_of
-  refusal_match x e = λ i. if not (ltb a (sym (processes_without k b) i)) then 3 else if is_exited (r.status i) then 4 else e i
+  refusal_match x e = λ i. provided not (ltb a (sym (processes_without k b) i)) then 3 else provided is_exited (r.status i) then 4 else e i
 
   past : (u : View) (x : Process) (y : Action) → refusal u x y ≡ 0 → first_of (action_rows u x y) ≡ 0
   unfolding refusal
@@ -153,13 +153,13 @@ module _ (k a : ℕ) (b : Board) (good : good_board b ≡ true) (hk : k < length
   -- rows 7 and 8, and what follows
   rows_match : (kind : Kind) (driver j : ℕ) (rows rows' : List Row) → place_of b.drivers driver ≢ k → (Slot b kind driver (place_of b.drivers driver) j → first_of rows ≡ first_of rows')
       → first_of (slot_rows kind v driver j rows) ≡ first_of (slot_rows kind v' driver j rows')
-  unfolding first_of if◌then◌else◌
+  unfolding first_of provided◌then◌else◌
   rows_match kind driver j rows rows' ne f =
       rw (place_down k b driver ne, installed_down k b hk (place_of b.drivers driver) ne, slot_down k b kind (place_of b.drivers driver) j ne)
       (go (not (installed b (place_of b.drivers driver))) (not (has_slot kind b (place_of b.drivers driver) j)) refl refl)
     where
       go : (s t : Bool) → not (installed b (place_of b.drivers driver)) ≡ s → not (has_slot kind b (place_of b.drivers driver) j) ≡ t
-          → (if s then 7 else if t then 8 else first_of rows) ≡ (if s then 7 else if t then 8 else first_of rows')
+          → (provided s then 7 else provided t then 8 else first_of rows) ≡ (provided s then 7 else provided t then 8 else first_of rows')
       go true t p q = refl
       go false true p q = refl
       go false false p q = f (slot_of kind b driver j (not-false _ p) (not-false _ q))
@@ -193,7 +193,7 @@ module _ (k a : ℕ) (b : Board) (good : good_board b ≡ true) (hk : k < length
       → Match k (hears x) (decide v process x) (decide v' process' x)
   unfolding decide
   by_gone kind driver j rows rows' x e h here there f = rw h
-      (either (λ o. Match k false (if eqb (refusal v process x) 0 then decide_accepted v process x else answers (refuse x (refusal v process x))) o) (eqb (refusal v' process' x) 0) _ _ (λ q. gone (past v' process' x (eqb-true _ 0 q)))
+      (either (λ o. Match k false (provided eqb (refusal v process x) 0 then decide_accepted v process x else answers (refuse x (refusal v process x))) o) (eqb (refusal v' process' x) 0) _ _ (λ q. gone (past v' process' x (eqb-true _ 0 q)))
       λ _. either (λ o. Match k false o (answers (refuse x (refusal v' process' x)))) (eqb (refusal v process x) 0) _ _ (λ q. accepted (sym (ap first_of here) ∙ past v process x (eqb-true _ 0 q))) λ _. unheard _ _)
     where
       gone : {A : Type 0} → first_of (action_rows v' process' x) ≡ 0 → A
@@ -220,7 +220,7 @@ module _ (k a : ℕ) (b : Board) (good : good_board b ≡ true) (hk : k < length
   fetch_any : (driver j offset n : ℕ) → Match k false (decide v process (fetch driver j offset n)) (decide v' process' (fetch driver j offset n))
   unfolding decide decide_accepted
   fetch_any driver j offset n =
-      either (λ o. Match k false o (if eqb (refusal v' process' (fetch driver j offset n)) 0 then decide_accepted v' process' (fetch driver j offset n) else answers (refuse (fetch driver j offset n) (refusal v' process' (fetch driver j offset n))))) _ _ _
+      either (λ o. Match k false o (provided eqb (refusal v' process' (fetch driver j offset n)) 0 then decide_accepted v' process' (fetch driver j offset n) else answers (refuse (fetch driver j offset n) (refusal v' process' (fetch driver j offset n))))) _ _ _
       (λ _. either (λ o. Match k false (decide_accepted v process (fetch driver j offset n)) o) _ _ _ (λ _. unheard _ _) λ _. unheard _ _)
       λ _. either (λ o. Match k false (answers (refuse (fetch driver j offset n) (refusal v process (fetch driver j offset n)))) o) _ _ _ (λ _. unheard _ _) λ _. unheard _ _
 

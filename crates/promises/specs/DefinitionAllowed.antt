@@ -4,7 +4,7 @@ use Rattle.std.specs.Prelude.{ℕ, ◌≡◌, refl, Bool, true, false, not, List
 use Rattle.std.proofs.Common.{sym, ap, ◌∙◌, subst, eqb-true}
 use Rattle.std.proofs.lemmas.Bool.{not-false}
 use Rattle.std.specs.Borrow.{Bor}
-use Rattle.definition.specs.Tests.{if◌then◌else◌, ◌when◌, first_of}
+use Rattle.definition.specs.Tests.{provided◌then◌else◌, ◌when◌, first_of}
 use Rattle.definition.specs.Board.{areas_at, place_of}
 use Rattle.definition.specs.State.{Process, State}
 use Rattle.definition.specs.Answer.{Answer, refused, started, fetched, changes_nothing, number_of}
@@ -45,7 +45,7 @@ step_call : (p class r0 r1 r2 r3 : ℕ) (w : World) (f : List ℕ) → let o = s
 unfolding step perform decide decide_accepted refusal view_of
 step_call p class r0 r1 r2 r3 w f =
     let n = refusal (view_of w p) (process_at w.state p) (call class r0 r1 r2 r3) in
-    ap (λ o. perform p (if eqb n 0 then o else answers (refused n)) (record { state = w.state; memory = w.memory; flash = f })) (call_blind (view_of w p) f (process_at w.state p) (decode class r0 r1 r2 r3))
+    ap (λ o. perform p (provided eqb n 0 then o else answers (refused n)) (record { state = w.state; memory = w.memory; flash = f })) (call_blind (view_of w p) f (process_at w.state p) (decode class r0 r1 r2 r3))
 
 -- ---- a step on other images, of which it leaves those that it does not take
 
@@ -55,10 +55,10 @@ rows_of s x = first_of (1 when wrong_image s x ∷ 2 when not (well_formed x.tab
 
 made : (s : Step) (x : Lent) (put : Lent → Lent) → rows_of s (put x) ≡ rows_of s x → out_of (step s (world_of (put x))) ≡ gave (step s (world_of x)).answer (put (lent_of (step s (world_of x)).after))
     → table_step s (put x) ≡ gave (table_step s x).answer (put (table_step s x).after)
-unfolding table_step if◌then◌else◌
+unfolding table_step provided◌then◌else◌
 made s x put e q = rw e (go (eqb (rows_of s x) 0) (refuse_step s (rows_of s x)))
   where
-    go : (b : Bool) (r : Answer) → (if b then out_of (step s (world_of (put x))) else gave r (put x)) ≡ gave (if b then out_of (step s (world_of x)) else gave r x).answer (put (if b then out_of (step s (world_of x)) else gave r x).after)
+    go : (b : Bool) (r : Answer) → (provided b then out_of (step s (world_of (put x))) else gave r (put x)) ≡ gave (provided b then out_of (step s (world_of x)) else gave r x).answer (put (provided b then out_of (step s (world_of x)) else gave r x).after)
     go true r = q
     go false r = refl
 
@@ -75,7 +75,7 @@ unwritten_step p a w e = ap (λ l. record { answer = (step (own p a) w).answer; 
 
 -- of two outcomes that write no byte, the one that is taken
 neither : (p : ℕ) (w : World) (b : Bool) (o o' : Outcome) → write_of (areas_at w.state.board p) (process_at w.state p) o ≡ no_write → write_of (areas_at w.state.board p) (process_at w.state p) o' ≡ no_write
-    → store (write_of (areas_at w.state.board p) (process_at w.state p) (if b then o else o')) w.memory ≡ w.memory
+    → store (write_of (areas_at w.state.board p) (process_at w.state p) (provided b then o else o')) w.memory ≡ w.memory
 neither p w b o o' e e' =
     either (λ o. store (write_of (areas_at w.state.board p) (process_at w.state p) o) w.memory ≡ w.memory) b o o' (λ _. rw e (unwritten p w)) (λ _. rw e' (unwritten p w))
 
@@ -92,10 +92,10 @@ resume_made p x m f = made _ x (λ y. lent y.table m f) refl (ap out_of (unwritt
 
 latch_made : (driver peak : ℕ) (x : Lent) (m f : List ℕ) → let o = table_step (latch driver peak) x in
     table_step (latch driver peak) (lent x.table m f) ≡ gave o.answer (lent o.after.table m f)
-unfolding wrong_image step latch_step if◌then◌else◌
+unfolding wrong_image step latch_step provided◌then◌else◌
 latch_made driver peak x m f = made _ x (λ y. lent y.table m f) refl (go (eqb (latch_refusal (state_of x.table).board (place_of (state_of x.table).board.drivers driver)) 0) _ _ _)
   where
-    go : (b : Bool) (r r' : Answer) (s : State) → let o : World → Out World = λ w. if b then record { answer = r; after = record { state = s; memory = w.memory; flash = w.flash } } else record { answer = r'; after = w } in
+    go : (b : Bool) (r r' : Answer) (s : State) → let o : World → Out World = λ w. provided b then record { answer = r; after = record { state = s; memory = w.memory; flash = w.flash } } else record { answer = r'; after = w } in
         out_of (o (world x.table m f)) ≡ gave (o (world_of x)).answer (lent (image_of (o (world_of x)).after.state) m f)
     go true r r' s = refl
     go false r r' s = refl
@@ -108,8 +108,8 @@ unfolding wrong_image step perform decide decide_accepted refusal view_of
 deposit_made p driver j offset bytes x f = made _ x (λ y. lent y.table y.memory f) refl refl
 
 -- the outcomes of a deposit leave the state
-state_kept : (p : ℕ) (w : World) (b : Bool) (address : ℕ) (bytes : List ℕ) (r : Answer) → (perform p (if b then writes address bytes else answers r) w).after.state ≡ w.state
-unfolding perform process_after claims_after if◌then◌else◌
+state_kept : (p : ℕ) (w : World) (b : Bool) (address : ℕ) (bytes : List ℕ) (r : Answer) → (perform p (provided b then writes address bytes else answers r) w).after.state ≡ w.state
+unfolding perform process_after claims_after provided◌then◌else◌
 state_kept p w true address bytes r = λ i. record { board = w.state.board; processes = put_back p w i; claims = w.state.claims }
 state_kept p w false address bytes r = λ i. record { board = w.state.board; processes = put_back p w i; claims = w.state.claims }
 
@@ -157,9 +157,9 @@ module _ (x : Lent) where
       left (latched e) (e x.memory x.flash)
 
 -- start takes no image
-started_any : (b : Bool) (r : Answer) (t t' m f m' f' : List ℕ) → let o : List ℕ → List ℕ → Out Lent = λ m f. if b then gave started (lent t' m f) else gave r (lent t m f) in
+started_any : (b : Bool) (r : Answer) (t t' m f m' f' : List ℕ) → let o : List ℕ → List ℕ → Out Lent = λ m f. provided b then gave started (lent t' m f) else gave r (lent t m f) in
     o m f ≡ gave (o m' f').answer (lent (o m' f').after.table m f)
-unfolding if◌then◌else◌
+unfolding provided◌then◌else◌
 started_any true r t t' m f m' f' = refl
 started_any false r t t' m f m' f' = refl
 

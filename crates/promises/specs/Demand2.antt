@@ -5,7 +5,7 @@ use Rattle.std.proofs.Common.{ap, ◌∙◌, arith, eqb-true, eq-eqb, ne_eqb}
 use Rattle.std.proofs.Math.Bool.{true, false}
 use Rattle.std.proofs.Math.ListN.{get_or-map}
 use Rattle.std.proofs.Math.Dec.{eqb}
-use Rattle.definition.specs.Tests.{if◌then◌else◌, Each, none, more}
+use Rattle.definition.specs.Tests.{provided◌then◌else◌, Each, none, more}
 use Rattle.definition.specs.Limits.{image_bytes, all_slots}
 use Rattle.definition.specs.Board.{Board, Areas, Kind, areas_at, no_areas, place_of}
 use Rattle.definition.specs.State.{Pair, null, Upcall, Status, running, waiting, Process, held, slot_at, cleared, Claim, free, fresh}
@@ -66,11 +66,11 @@ module _ (a : ℕ) (w : World) (hs : List Heard) (g : Good w.state) (h : a < len
   other_told s e = subst (λ process. Told w.state.board process hs) (sym (other_guarded a w g h s e).process) t
 
   any_told : (s : Step) → Told w.state.board (process_at (guarded s w).after.state a) (heard a s (guarded s w).answer hs)
-  unfolding heard is_own if◌then◌else◌
+  unfolding heard is_own provided◌then◌else◌
   any_told (latch driver peak) = other_told (latch driver peak) refl
   any_told (own p x) = go (eqb p a) refl
     where
-      go : (t : Bool) → eqb p a ≡ t → Told w.state.board (process_at (guarded (own p x) w).after.state a) (if t then record { action = x; answer = (guarded (own p x) w).answer } ∷ hs else hs)
+      go : (t : Bool) → eqb p a ≡ t → Told w.state.board (process_at (guarded (own p x) w).after.state a) (provided t then record { action = x; answer = (guarded (own p x) w).answer } ∷ hs else hs)
       go true e = subst (λ q. Told w.state.board (process_at (guarded (own q x) w).after.state a) (record { action = x; answer = (guarded (own q x) w).answer } ∷ hs)) (sym (eqb-true p a e)) (own_told x)
       go false e = other_told (own p x) e
 
@@ -165,30 +165,30 @@ module _ (a : ℕ) (w : World) (hs : List Heard) (t : Told w.state.board (proces
 
 -- a yield of a running process and a resume of a waiting one answer with the first upcall of the queue
 yields_first : (a : ℕ) (w : World) (number address r2 r3 : ℕ) → number < 2
-    → answer_by w a (decide_call (view_of w a) (process_in w a) (decode 0 number address r2 r3)) ≡ deliver (if eqb number 0 then nothing else waits) (process_in w a).queue
-unfolding decode decode_yield decide_call decide_known answer_of if◌then◌else◌
+    → answer_by w a (decide_call (view_of w a) (process_in w a) (decode 0 number address r2 r3)) ≡ deliver (provided eqb number 0 then nothing else waits) (process_in w a).queue
+unfolding decode decode_yield decide_call decide_known answer_of provided◌then◌else◌
 yields_first a w zero address r2 r3 h = refl
 yields_first a w (suc zero) address r2 r3 h = refl
 yields_first a w (suc (suc n)) address r2 r3 h = absurd (omega arith)
 
 module _ (a : ℕ) (w : World) (known : a < length w.state.board.processes) where
   yield_answer : (number address r2 r3 : ℕ) → number < 2 → (process_in w a).status ≡ running → length w.memory ≡ image_bytes
-      → (guarded (own a (call 0 number address r2 r3)) w).answer ≡ deliver (if eqb number 0 then nothing else waits) (process_in w a).queue
-  unfolding guarded wrong_image if◌then◌else◌
+      → (guarded (own a (call 0 number address r2 r3)) w).answer ≡ deliver (provided eqb number 0 then nothing else waits) (process_in w a).queue
+  unfolding guarded wrong_image provided◌then◌else◌
   yield_answer n address r2 r3 h e m =
       rw (eq-eqb (length w.memory) image_bytes m) (call_answer w a 0 n address r2 r3 (record { known = known; running = e }) ∙ yields_first a w n address r2 r3 h)
 
   resume_answer : (process_in w a).status ≡ waiting → (guarded (own a resume) w).answer ≡ deliver waits (process_in w a).queue
-  unfolding guarded wrong_image step perform decide decide_accepted answer_of if◌then◌else◌
+  unfolding guarded wrong_image step perform decide decide_accepted answer_of provided◌then◌else◌
   resume_answer e = rw (waiting_passes w a known e)
 
 -- with an image of its length a call is that of the state, and with another it is refused
 whole_image : (a : ℕ) (w : World) (class r0 r1 r2 r3 : ℕ) → length w.memory ≡ image_bytes → (guarded (own a (call class r0 r1 r2 r3)) w).answer ≡ answer_to w a class r0 r1 r2 r3
-unfolding guarded wrong_image if◌then◌else◌
+unfolding guarded wrong_image provided◌then◌else◌
 whole_image a w class r0 r1 r2 r3 m = rw (eq-eqb (length w.memory) image_bytes m)
 
 no_image : (a : ℕ) (w : World) (class r0 r1 r2 r3 : ℕ) → (length w.memory ≡ image_bytes → ⊥) → is_accepted (guarded (own a (call class r0 r1 r2 r3)) w).answer ≡ false
-unfolding guarded wrong_image if◌then◌else◌
+unfolding guarded wrong_image provided◌then◌else◌
 no_image a w class r0 r1 r2 r3 m = rw (ne_eqb (length w.memory) image_bytes m)
 
 -- what is accepted is so in the same world, and by the same answers

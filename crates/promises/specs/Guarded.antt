@@ -1,7 +1,7 @@
 -- A run over tables, from the image of a good state, is the image of a run over states in which row 1 is checked first.
 use Rattle.std.specs.Prelude.{ℕ, ◌≡◌, refl, Bool, true, false, List, [], ◌∷◌, length, eqb}
 use Rattle.std.proofs.Common.{◌∙◌}
-use Rattle.definition.specs.Tests.{if◌then◌else◌, first_of}
+use Rattle.definition.specs.Tests.{provided◌then◌else◌, first_of}
 use Rattle.definition.specs.World.{World, Step, own, latch, Out, perform, latch_step, step}
 use Rattle.definition.specs.Runs.{run, answers_to}
 use Rattle.definition.specs.Table.{Lent, wrong_image, refuse_step, world_of, lent_of, out_of, table_step}
@@ -14,7 +14,7 @@ use Rattle.promises.specs.History.{Heard, heard, history_of}
 
 -- the step over states, behind row 1
 unfoldable pub guarded : Step → World → Out World
-guarded s w = if wrong_image s (lent_of w) then record { answer = refuse_step s 1; after = w } else step s w
+guarded s w = provided wrong_image s (lent_of w) then record { answer = refuse_step s 1; after = w } else step s w
 
 pub guarded_keeps : (s : Step) (w : World) → Good w.state → Good (guarded s w).after.state
 unfolding guarded
@@ -58,12 +58,12 @@ run_length [] x = refl
 run_length (s ∷ l) x = run_length l (table_step s x).after ∙ table_length s x
 
 pub table_step_lem : (s : Step) (w : World) → Good w.state → table_step s (lent_of w) ≡ out_of (guarded s w)
-unfolding table_step guarded if◌then◌else◌ first_of
+unfolding table_step guarded provided◌then◌else◌ first_of
 table_step_lem s w g =
     rw (image_well_formed w.state (of_good w.state g), good_back w.state (of_good w.state g)) (go (wrong_image s (lent_of w)))
   where
-    go : (t : Bool) → (if eqb (if t then 1 else 0) 0 then out_of (step s w) else record { answer = refuse_step s (if t then 1 else 0); after = lent_of w })
-        ≡ out_of (if t then record { answer = refuse_step s 1; after = w } else step s w)
+    go : (t : Bool) → (provided eqb (provided t then 1 else 0) 0 then out_of (step s w) else record { answer = refuse_step s (provided t then 1 else 0); after = lent_of w })
+        ≡ out_of (provided t then record { answer = refuse_step s 1; after = w } else step s w)
     go true = refl
     go false = refl
 

@@ -8,7 +8,7 @@ use Rattle.std.proofs.Math.Bool.{true}
 use mathlib.Core.List.{List, [], ◌∷◌}
 use Rattle.std.proofs.Math.ListN.{get_or-map}
 use Rattle.std.proofs.lemmas.Bool.{not-true, not-false}
-use Rattle.definition.specs.Tests.{if◌then◌else◌, first_of}
+use Rattle.definition.specs.Tests.{provided◌then◌else◌, first_of}
 use Rattle.definition.specs.Board.{Board, no_areas, areas_at, permits, good_board}
 use Rattle.definition.specs.State.{running, cleared, fresh}
 use Rattle.definition.specs.Answer.{started}
@@ -72,7 +72,7 @@ module _ (k a : ℕ) (b : Board) (good : good_board b ≡ true) (hk : k < length
 
   followed : (l : List Step) (w w' : World) → Good w.state → Good w'.state → sends_none (board_without k b) a l ≡ true → Alongside k a b w w'
       → answers_to guarded (is_heard a) l w ≡ answers_to guarded (is_heard a) (own_steps a l) w'
-  unfolding those answers_to if◌then◌else◌
+  unfolding those answers_to provided◌then◌else◌
   followed [] w w' g g' quiet p = refl
   followed (s ∷ l) w w' g g' quiet p = go (is_own a s) refl (followed l (guarded s w).after)
     where
@@ -89,8 +89,8 @@ module _ (k a : ℕ) (b : Board) (good : good_board b ≡ true) (hk : k < length
         where
           told : (t : Bool) → is_heard a s ≡ t → (is_heard a s ≡ true → (guarded s w).answer ≡ (guarded s w').answer)
               → answers_to guarded (is_heard a) l (guarded s w).after ≡ answers_to guarded (is_heard a) (own_steps a l) (guarded s w').after
-              → (if t then (guarded s w).answer ∷ answers_to guarded (is_heard a) l (guarded s w).after else answers_to guarded (is_heard a) l (guarded s w).after)
-              ≡ (if t then (guarded s w').answer ∷ answers_to guarded (is_heard a) (own_steps a l) (guarded s w').after else answers_to guarded (is_heard a) (own_steps a l) (guarded s w').after)
+              → (provided t then (guarded s w).answer ∷ answers_to guarded (is_heard a) l (guarded s w).after else answers_to guarded (is_heard a) l (guarded s w).after)
+              ≡ (provided t then (guarded s w').answer ∷ answers_to guarded (is_heard a) (own_steps a l) (guarded s w').after else answers_to guarded (is_heard a) (own_steps a l) (guarded s w').after)
           told true h f r = λ i. f h i ∷ r i
           told false h f r = r
       go false e ih = simp (e, not_owned a (is_heard a) (heard_own a) s e) (ih w' (guarded_keeps s w g) g' rest (other_alongside s w w' g e p))
@@ -105,7 +105,7 @@ start_size words x e = either (λ (o : Out Lent). o.answer ≡ started → lengt
 
 -- on which every good board starts
 start_good : (x : Lent) (b : Board) → length x.table ≡ table_words → good_board b ≡ true → (start (lent_board b) x).answer ≡ started
-unfolding start first_of if◌then◌else◌
+unfolding start first_of provided◌then◌else◌
 start_good x b e g = rw (eq-eqb (length x.table) table_words e, board_words_good b g)
 
 abbrev fresh_on : List ℕ → List ℕ → Board → World

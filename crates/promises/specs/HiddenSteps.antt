@@ -3,7 +3,7 @@ use Rattle.std.specs.Prelude.{ℕ, ◌<◌, ◌≡◌, refl, Bool, not, List, le
 use Rattle.std.proofs.Math.Path.{sym, ap, subst}
 use Rattle.std.proofs.Common.{◌∙◌, arith}
 use Rattle.std.proofs.Math.Bool.{true, false}
-use Rattle.definition.specs.Tests.{if◌then◌else◌}
+use Rattle.definition.specs.Tests.{provided◌then◌else◌}
 use Rattle.definition.specs.Limits.{max_drivers, image_bytes}
 use Rattle.definition.specs.Board.{Board, areas_at, permits, good_board}
 use Rattle.definition.specs.Decide.{Action, call, event, resume, deposit, fetch, View}
@@ -111,9 +111,9 @@ module _ (k a : ℕ) (b : Board) (good : good_board b ≡ true) (hk : k < length
       go (fetch driver j offset n) = cc (memories, flashes)
 
   pub guarded_both : Both k a b x (guarded (own a x) w) (guarded (own a x) w')
-  unfolding guarded if◌then◌else◌
+  unfolding guarded provided◌then◌else◌
   guarded_both = rw wrong_same (go (wrong_image (own a x) (lent_of w')))
     where
-      go : (t : Bool) → Both k a b x (if t then record { answer = refuse_step (own a x) 1; after = w } else step (own a x) w) (if t then record { answer = refuse_step (own a x) 1; after = w' } else step (own a x) w')
+      go : (t : Bool) → Both k a b x (provided t then record { answer = refuse_step (own a x) 1; after = w } else step (own a x) w) (provided t then record { answer = refuse_step (own a x) 1; after = w' } else step (own a x) w')
       go true = record { answer = λ _. refl; after = p }
       go false = own_both

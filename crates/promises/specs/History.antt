@@ -2,7 +2,7 @@
 -- A history is read from the latest step back.
 use Rattle.std.specs.Prelude.{ℕ, ◌≡◌, Bool, true, false, ◌&&◌, ◌||◌, eqb}
 use mathlib.Core.List.{List, [], ◌∷◌, ◌++◌, tail}
-use Rattle.definition.specs.Tests.{if◌then◌else◌, Each}
+use Rattle.definition.specs.Tests.{provided◌then◌else◌, Each}
 use Rattle.definition.specs.Board.{Kind, subscribe}
 use Rattle.definition.specs.State.{Pair, null}
 use Rattle.definition.specs.Answer.{Answer, refused, registers, delivered, waits, nothing, taken, deposited, latched, started, terminated, restarted, fetched, SUCCESS_WITH_2_U32}
@@ -17,7 +17,7 @@ pub record Heard : Type 0 where
 
 -- a history with one step more, if it is process a's own
 unfoldable pub heard : ℕ → Step → Answer → List Heard → List Heard
-heard a (own p x) answer hs = if eqb p a then record { action = x; answer = answer } ∷ hs else hs
+heard a (own p x) answer hs = provided eqb p a then record { action = x; answer = answer } ∷ hs else hs
 heard a (latch driver peak) answer hs = hs
 
 -- process a's own steps of a list, with their answers, after those of hs
@@ -78,8 +78,8 @@ passed (fetch d i offset n) = null
 unfoldable pub last_pair : Kind → ℕ → ℕ → List Heard → Pair
 last_pair kind driver j [] = null
 last_pair kind driver j (h ∷ hs) =
-    if is_exit h.answer then null
-    else if is_exchange h.answer && names kind driver j h.action then passed h.action
+    provided is_exit h.answer then null
+    else provided is_exchange h.answer && names kind driver j h.action then passed h.action
     else last_pair kind driver j hs
 
 -- ---- which upcalls are pending
@@ -96,10 +96,10 @@ pub record Pending : Type 0 where
 -- an accepted subscribe takes the upcalls of its slot away
 unfoldable pub without : ℕ → ℕ → List Pending → List Pending
 without driver j [] = []
-without driver j (u ∷ q) = if eqb u.driver driver && eqb u.slot j then without driver j q else u ∷ without driver j q
+without driver j (u ∷ q) = provided eqb u.driver driver && eqb u.slot j then without driver j q else u ∷ without driver j q
 
 unfoldable pub cancelled_by : Action → List Pending → List Pending
-cancelled_by (call class r0 r1 r2 r3) q = if eqb class (class_of subscribe) then without r0 r1 q else q
+cancelled_by (call class r0 r1 r2 r3) q = provided eqb class (class_of subscribe) then without r0 r1 q else q
 cancelled_by (event d i x y z) q = q
 cancelled_by resume q = q
 cancelled_by (deposit d i offset bytes) q = q
@@ -116,7 +116,7 @@ taken_by holds (fetch d i offset n) = []
 -- a delivery takes the first one away, an accepted exit or restart all of them
 unfoldable pub pending_after : (ℕ → ℕ → Pair) → Action → Answer → List Pending → List Pending
 pending_after holds a (refused n) q = q
-pending_after holds a (registers r0 r1 r2 r3) q = if eqb r0 SUCCESS_WITH_2_U32 then cancelled_by a q else q
+pending_after holds a (registers r0 r1 r2 r3) q = provided eqb r0 SUCCESS_WITH_2_U32 then cancelled_by a q else q
 pending_after holds a (delivered pointer r0 r1 r2 r3) q = tail q
 pending_after holds a waits q = q
 pending_after holds a nothing q = q

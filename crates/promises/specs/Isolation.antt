@@ -8,7 +8,7 @@ use Rattle.std.proofs.Math.Decide.{dec_lt}
 use Rattle.std.proofs.Math.ListN.{length}
 use Rattle.std.proofs.Math.Seq.{get_or-set_same, get_or-set_other}
 use borrow.Author.Tests.{eqb-true, eqb-false, not-true}
-use Rattle.definition.specs.Tests.{if◌then◌else◌}
+use Rattle.definition.specs.Tests.{provided◌then◌else◌}
 use Rattle.definition.specs.Limits.{image_bytes}
 use Rattle.definition.specs.Board.{areas_at}
 use Rattle.definition.specs.State.{Process, no_process, Claim}
@@ -173,10 +173,10 @@ module _ (a : ℕ) (x : Action) (w w' : World) (g : Good w.state) (g' : Good w'.
       own = own_answer (view_of w a) (process_at w.state a) x (decided a x w) (decided_why a x w) quiet
 
   pub own_guarded : Equal a (guarded (own a x) w) (guarded (own a x) w')
-  unfolding guarded if◌then◌else◌
+  unfolding guarded provided◌then◌else◌
   own_guarded = rw (same_wrong (own a x) s) (go (wrong_image (own a x) (lent_of w')))
     where
-      go : (t : Bool) → Equal a (if t then record { answer = refuse_step (own a x) 1; after = w } else step (own a x) w) (if t then record { answer = refuse_step (own a x) 1; after = w' } else step (own a x) w')
+      go : (t : Bool) → Equal a (provided t then record { answer = refuse_step (own a x) 1; after = w } else step (own a x) w) (provided t then record { answer = refuse_step (own a x) 1; after = w' } else step (own a x) w')
       go true = record { answer = refl; after = s }
       go false = own_step
 

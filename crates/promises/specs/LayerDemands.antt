@@ -1,7 +1,7 @@
 -- Demands 2 and 3 of the layer, and that it hides a denied driver: a list of its calls is the definition's run, of which they hold.
 use Rattle.std.specs.Prelude.{ℕ, ◌≡◌, refl, Bool, true, List, [], ◌∷◌}
 use Rattle.std.proofs.Common.{sym, ap, ap₂, ◌∙◌, subst}
-use Rattle.definition.specs.Tests.{if◌then◌else◌}
+use Rattle.definition.specs.Tests.{provided◌then◌else◌}
 use Rattle.definition.specs.Answer.{Answer, fetched, changes_nothing}
 use Rattle.definition.specs.Decide.{Action, fetch}
 use Rattle.definition.specs.World.{Step, own, Out}
@@ -46,13 +46,13 @@ call_is (latched c) = c _ _
 
 -- all answers, of which some are asked for
 picked : (f : Step → Bool) (l : List Step) (x : Lent) → answers_for f l (all_answers table_step l x) ≡ answers_to table_step f l x
-unfolding answers_for answers_to if◌then◌else◌
+unfolding answers_for answers_to provided◌then◌else◌
 picked f [] x = refl
-picked f (s ∷ l) x = ap (λ (rest : List Answer). if f s then (table_step s x).answer ∷ rest else rest) (picked f l (table_step s x).after)
+picked f (s ∷ l) x = ap (λ (rest : List Answer). provided f s then (table_step s x).answer ∷ rest else rest) (picked f l (table_step s x).after)
 
 -- a process's history
 heard_so : (a : ℕ) (l : List Step) (x : Lent) (hs : List Heard) → history_for a l (all_answers table_step l x) hs ≡ history_of table_step a l x hs
-unfolding history_for history_of answers_to if◌then◌else◌
+unfolding history_for history_of answers_to provided◌then◌else◌
 heard_so a [] x hs = refl
 heard_so a (s ∷ l) x hs = heard_so a l (table_step s x).after (heard a s (table_step s x).answer hs)
 
@@ -62,7 +62,7 @@ pub record Same (l : List Step) (x : Lent) (answers : List Answer) (y : Lent) : 
 
 -- the answers, and all that is lent, after a list of calls are those of the definition's run
 pub layer_runs : {l : List Step} {x : Lent} {answers : List Answer} {y : Lent} → Ran l x answers y → Same l x answers y
-unfolding answers_to run if◌then◌else◌
+unfolding answers_to run provided◌then◌else◌
 layer_runs (ended x) = record { given = refl; left = refl }
 layer_runs (next {s} {l} {r} {answers} {x} {y} {z} c ran) =
     let e = call_is c in

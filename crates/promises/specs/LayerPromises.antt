@@ -1,6 +1,6 @@
 -- What is promised of calls of the layer's public functions, one after another (demands 2 and 3, and a driver that is denied), in the words that speak of the definition's runs.
 use Rattle.std.specs.Prelude.{ℕ, ◌<◌, ◌≡◌, Bool, true, false, List, [], ◌∷◌, length}
-use Rattle.definition.specs.Tests.{if◌then◌else◌}
+use Rattle.definition.specs.Tests.{provided◌then◌else◌}
 use Rattle.definition.specs.Board.{areas_at, permits}
 use Rattle.definition.specs.Answer.{Answer, started}
 use Rattle.definition.specs.Decide.{Action}
@@ -22,7 +22,7 @@ pub data Begun : List ℕ → Lent → Answer → Lent → Type 0 where
 unfoldable pub answers_for : (Step → Bool) → List Step → List Answer → List Answer
 answers_for f [] answers = []
 answers_for f (s ∷ l) [] = []
-answers_for f (s ∷ l) (r ∷ answers) = if f s then r ∷ answers_for f l answers else answers_for f l answers
+answers_for f (s ∷ l) (r ∷ answers) = provided f s then r ∷ answers_for f l answers else answers_for f l answers
 
 -- process a's steps among them with the answers given, after those of hs: its history
 unfoldable pub history_for : ℕ → List Step → List Answer → List Heard → List Heard

@@ -8,7 +8,7 @@ use Rattle.std.proofs.Math.Decide.{dec_lt}
 use Rattle.std.proofs.Math.ListN.{length}
 use Rattle.std.proofs.Math.Dec.{ltb, eqb}
 use borrow.Author.Tests.{ltb-true, ltb-false, eqb-true, eqb-false, lt-ltb, le-ltb, eq-eqb, ne_eqb, not-false}
-use Rattle.definition.specs.Tests.{if◌then◌else◌, ◌when◌, first_of}
+use Rattle.definition.specs.Tests.{provided◌then◌else◌, ◌when◌, first_of}
 use Rattle.definition.specs.Board.{Board, Areas, Kind, subscribe, read_write, read_only, areas_at, place_of, driver_at, slots_of, installed, has_slot}
 use Rattle.definition.specs.State.{Pair, held, slot_at, State}
 use Rattle.definition.specs.Area.{Area, in_flash, outside, area_of, accessible, holdable}
@@ -41,29 +41,29 @@ module _ (s : State) (kind : Kind) (p driver j : ℕ) where
 
   -- what is told of a buffer was not refused: the number of the rows is 0, and the buffer is the one that is held
   not_refused : (area : Area) (x : Pair) → located kind p driver j s ≡ lies area x → (number ≡ 0) × (lying x ≡ area) × (pair_held ≡ x)
-  unfolding located if◌then◌else◌
+  unfolding located provided◌then◌else◌
   not_refused area x e = go (eqb number 0) refl e
     where
-      go : (t : Bool) → eqb number 0 ≡ t → (if t then lies (lying pair_held) pair_held else refused number) ≡ lies area x → (number ≡ 0) × (lying x ≡ area) × (pair_held ≡ x)
+      go : (t : Bool) → eqb number 0 ≡ t → (provided t then lies (lying pair_held) pair_held else refused number) ≡ lies area x → (number ≡ 0) × (lying x ≡ area) × (pair_held ≡ x)
       go true q e = let same : pair_held ≡ x = cc in (eqb-true number 0 q, ap lying (sym same) ∙ cc, same)
       go false q e = never (cc)
 
   -- what is refused has the number of the rows
   is_refused : (n : ℕ) → located kind p driver j s ≡ refused n → (number ≢ 0) × (number ≡ n)
-  unfolding located if◌then◌else◌
+  unfolding located provided◌then◌else◌
   is_refused n e = go (eqb number 0) refl e
     where
-      go : (t : Bool) → eqb number 0 ≡ t → (if t then lies (lying pair_held) pair_held else refused number) ≡ refused n → (number ≢ 0) × (number ≡ n)
+      go : (t : Bool) → eqb number 0 ≡ t → (provided t then lies (lying pair_held) pair_held else refused number) ≡ refused n → (number ≢ 0) × (number ≡ n)
       go true q e = never (cc)
       go false q e = (eqb-false number 0 q, cc)
 
   -- and the other way round
   tells_held : number ≡ 0 → located kind p driver j s ≡ lies (lying pair_held) pair_held
-  unfolding located if◌then◌else◌
+  unfolding located provided◌then◌else◌
   tells_held z = rw (eq-eqb number 0 z)
 
   refuses_by : number ≢ 0 → located kind p driver j s ≡ refused number
-  unfolding located if◌then◌else◌
+  unfolding located provided◌then◌else◌
   refuses_by h = rw (ne_eqb number 0 h)
 
 -- a slot that is for a buffer, and one that is not there or is for none
@@ -129,15 +129,15 @@ module _ (t : List ℕ) (kind : Kind) (p driver j : ℕ) (area : Area) (x : Pair
       }
 
   told_exactly : locate kind p driver j t ≡ lies area x → ToldExactly kind p driver j t area x
-  unfolding locate if◌then◌else◌
+  unfolding locate provided◌then◌else◌
   told_exactly e = go (well_formed t) refl e
     where
-      go : (f : Bool) → well_formed t ≡ f → (if f then located kind p driver j (state_of t) else refused 2) ≡ lies area x → ToldExactly kind p driver j t area x
+      go : (f : Bool) → well_formed t ≡ f → (provided f then located kind p driver j (state_of t) else refused 2) ≡ lies area x → ToldExactly kind p driver j t area x
       go true q e = on_table_lem q e
       go false q e = never (cc)
 
   told_back : ToldExactly kind p driver j t area x → locate kind p driver j t ≡ lies area x
-  unfolding locate if◌then◌else◌
+  unfolding locate provided◌then◌else◌
   told_back e =
       let s = state_of t in
       let b = s.board in
@@ -159,7 +159,7 @@ module _ (t : List ℕ) (kind : Kind) (p driver j n : ℕ) where
 
   -- by the first row whose test holds
   by_row : well_formed t ≡ true → n ≢ 0 → first_of (question_rows kind b p k j) ≡ n → RefusedFor kind p driver j t n
-  unfolding first_of if◌then◌else◌
+  unfolding first_of provided◌then◌else◌
   by_row formed some e = go _ _ _ refl refl refl e
     where
       go : (on there has : Bool) → ltb p (length b.processes) ≡ on → installed b k ≡ there → has_buffer kind b k j ≡ has → first_of (3 when not on ∷ 7 when not there ∷ 8 when not has ∷ []) ≡ n
@@ -177,15 +177,15 @@ module _ (t : List ℕ) (kind : Kind) (p driver j n : ℕ) where
   by_number e q = refuses_by (state_of t) kind p driver j (λ z. never (cc)) ∙ ap refused (q ∙ sym e)
 
   refused_for : locate kind p driver j t ≡ refused n → RefusedFor kind p driver j t n
-  unfolding locate if◌then◌else◌
+  unfolding locate provided◌then◌else◌
   refused_for e = go (well_formed t) refl e
     where
-      go : (f : Bool) → well_formed t ≡ f → (if f then located kind p driver j (state_of t) else refused 2) ≡ refused n → RefusedFor kind p driver j t n
+      go : (f : Bool) → well_formed t ≡ f → (provided f then located kind p driver j (state_of t) else refused 2) ≡ refused n → RefusedFor kind p driver j t n
       go true q e = let (some, same) = is_refused (state_of t) kind p driver j n e in by_row q (λ z. some (same ∙ z)) same
       go false q e = no_table (cc) q
 
   refused_back : RefusedFor kind p driver j t n → locate kind p driver j t ≡ refused n
-  unfolding locate first_of if◌then◌else◌
+  unfolding locate first_of provided◌then◌else◌
   refused_back (no_table e f) = rw f (ap refused (sym e))
   refused_back (no_process e f h) = rw f (by_number e (rw (le-ltb p (length b.processes) h)))
   refused_back (no_driver e f h none) =

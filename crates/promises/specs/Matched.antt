@@ -9,7 +9,7 @@ use Rattle.std.proofs.Math.Decide.{ℕ_discrete}
 use Rattle.std.proofs.Math.Seq.{get_or-set_other}
 use Rattle.std.proofs.Math.Dec.{eqb}
 use Rattle.std.proofs.lemmas.Bool.{eqb-false}
-use Rattle.definition.specs.Tests.{if◌then◌else◌, Each, none, more, contains}
+use Rattle.definition.specs.Tests.{provided◌then◌else◌, Each, none, more, contains}
 use Rattle.definition.specs.Limits.{max_drivers, max_slots, all_slots}
 use Rattle.definition.specs.Board.{Areas, Kind, subscribe, read_write, read_only}
 use Rattle.definition.specs.State.{Pair, null, Upcall, Status, running, waiting, Process, slot_at, cleared, Claim}
@@ -58,12 +58,12 @@ module _ (k i j : ℕ) (ne : i ≢ k) where
       go false q = ne_eqb _ _ (λ z. eqb-false n i q (down_one k n i e ne z))
 
   cancel_low : (q : List Upcall) → Each (λ u. u.place ≢ k) q → cancel (down k i) j (map (lowered k) q) ≡ map (lowered k) (cancel i j q)
-  unfolding cancel if◌then◌else◌
+  unfolding cancel provided◌then◌else◌
   cancel_low [] none = refl
   cancel_low (u ∷ q) (more e es) = rw (same_place u.place e) (go (eqb u.place i && eqb u.slot j) (cancel_low q es))
     where
       go : (t : Bool) → cancel (down k i) j (map (lowered k) q) ≡ map (lowered k) (cancel i j q)
-          → (if t then cancel (down k i) j (map (lowered k) q) else lowered k u ∷ cancel (down k i) j (map (lowered k) q)) ≡ map (lowered k) (if t then cancel i j q else u ∷ cancel i j q)
+          → (provided t then cancel (down k i) j (map (lowered k) q) else lowered k u ∷ cancel (down k i) j (map (lowered k) q)) ≡ map (lowered k) (provided t then cancel i j q else u ∷ cancel i j q)
       go true h = h
       go false h = ap (λ r. lowered k u ∷ r) h
 
@@ -143,7 +143,7 @@ module _ (k : ℕ) (hk : k < max_drivers) (a : Areas) (process process' : Proces
   }
   after_match (poll address) = record { status = r.status; break = r.break; slots = r.slots; nothing = r.nothing; last = r.last; queue = ap tail r.queue ∙ map_tail (lowered k) process.queue; apart = each_tail r.apart }
   after_match await = record {
-    status = ap (λ t. if t then waiting else running) (empty_low k process.queue ∙ ap is_empty (sym r.queue));
+    status = ap (λ t. provided t then waiting else running) (empty_low k process.queue ∙ ap is_empty (sym r.queue));
     break = r.break;
     slots = r.slots;
     nothing = r.nothing;
@@ -173,7 +173,7 @@ module _ (k : ℕ) (hk : k < max_drivers) (a : Areas) (process process' : Proces
   ram_match ram (answer x) = refl
   ram_match ram (unheard x y) = refl
   ram_match ram (swap kind i j x ne hi hj) = refl
-  ram_match ram (poll address) = λ i. store_ram a (if contains a.ram_start (r.break i) address then record { address = address; bytes = (if (empty_low k process.queue ∙ ap is_empty (sym r.queue)) i then 0 else 1) ∷ [] } else no_write) ram
+  ram_match ram (poll address) = λ i. store_ram a (provided contains a.ram_start (r.break i) address then record { address = address; bytes = (provided (empty_low k process.queue ∙ ap is_empty (sym r.queue)) i then 0 else 1) ∷ [] } else no_write) ram
   ram_match ram await = refl
   ram_match ram (move new x) = refl
   ram_match ram (leave s x) = refl

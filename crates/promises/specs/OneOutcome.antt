@@ -4,7 +4,7 @@
 use Rattle.std.specs.Prelude.{ℕ, ◌^◌, ◌<◌, ◌≡◌, refl, Bool, true, false, List, [], ◌++◌, length, drop, leb, ltb}
 use Rattle.std.proofs.Common.{sym, ap, ◌∙◌, arith, ltb-true, ltb-false}
 use Rattle.std.specs.Borrow.{Bor}
-use Rattle.definition.specs.Tests.{if◌then◌else◌}
+use Rattle.definition.specs.Tests.{provided◌then◌else◌}
 use Rattle.definition.specs.Limits.{max_board_words}
 use Rattle.definition.specs.State.{Process, State, Upcall}
 use Rattle.definition.specs.Answer.{Answer, Part, number_of}
@@ -78,12 +78,12 @@ pub one_put : {l before a a' : List ℕ} {at next next' : ℕ} → Put l at befo
 one_put x y = (x.left ∙ sym y.left, x.place ∙ sym y.place)
 
 pub one_board : (f : Found (List ℕ)) (old : List ℕ) {r r' : Words} {a a' : List ℕ} → Boarded f old r a → Boarded f old r' a' → (r ≡ r') × (a ≡ a')
-unfolding Boarded if◌then◌else◌
+unfolding Boarded provided◌then◌else◌
 one_board f old {r} {r'} {a} {a'} x y = by (leb max_board_words (length old)) x y
   where
     -- in both cases the answer and the words are equal to something
     Are : Bool → Words → List ℕ → Type 0
-    Are t r a = if t then ((r ≡ board_told f) × (a ≡ words_after f old)) else ((r ≡ NoRoom) × (a ≡ old))
+    Are t r a = provided t then ((r ≡ board_told f) × (a ≡ words_after f old)) else ((r ≡ NoRoom) × (a ≡ old))
 
     by : (t : Bool) → Are t r a → Are t r' a' → (r ≡ r') × (a ≡ a')
     by true x y = (x.0 ∙ sym y.0, x.1 ∙ sym y.1)
@@ -136,11 +136,11 @@ one_left a b = (a.told ∙ sym b.told, a.lent ∙ sym b.lent, a.lines ∙ sym b.
 
 pub one_run : (s : List ℕ) (x : Lent) (at : ℕ) (lines out : List ℕ) {r r' : Bool} {y y' : Lent} {l l' o o' : List ℕ} → Runs s x at lines out r y l o → Runs s x at lines out r' y' l' o'
     → (r ≡ r') × (y ≡ y') × (l ≡ l') × (o ≡ o')
-unfolding Runs if◌then◌else◌
+unfolding Runs provided◌then◌else◌
 one_run s x at lines out {r} {r'} {y} {y'} {l} {l'} {o} {o'} a b = by (leb 3 (length out)) a b
   where
     Are : Bool → Bool → Lent → List ℕ → List ℕ → Type 0
-    Are t r y l o = if t then RunTold s x at lines out r y l o else NotRun x lines out r y l o
+    Are t r y l o = provided t then RunTold s x at lines out r y l o else NotRun x lines out r y l o
 
     by : (t : Bool) → Are t r y l o → Are t r' y' l' o' → (r ≡ r') × (y ≡ y') × (l ≡ l') × (o ≡ o')
     by true a b =

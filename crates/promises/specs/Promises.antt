@@ -1,7 +1,7 @@
 -- What is promised: of single steps, and, over tables, of every run after an accepted start (demands 2 and 3). What demands 2 and 3 ask is said of any
 -- answers and of whatever is lent afterwards, so that it can be asked of the definition's runs, of lists of calls, and of any layer.
 use Rattle.std.specs.Prelude.{ℕ, ◌<◌, ◌≡◌, true, false, List, [], map, length, eqb}
-use Rattle.definition.specs.Tests.{if◌then◌else◌}
+use Rattle.definition.specs.Tests.{provided◌then◌else◌}
 use Rattle.definition.specs.Limits.{image_bytes}
 use Rattle.definition.specs.Board.{Board, Kind, areas_at, driver_at, slots_of, place_of, permits}
 use Rattle.definition.specs.State.{Pair, Upcall, running, waiting, Process, held}
@@ -116,7 +116,7 @@ pub record Accounted (b : Board) (a : ℕ) (x : Lent) (history : List Heard) (no
   -- each yield-no-wait and yield-wait of a running process, and each resume of a waiting one, delivers the first pending upcall; where none is
   -- pending the answer is "nothing" or "waiting"
   pub yields : (number address r2 r3 : ℕ) → number < 2 → (record_of a now).status ≡ running → length x.memory ≡ image_bytes
-      → next (call 0 number address r2 r3) ≡ deliver (if eqb number 0 then nothing else waits) (map (upcall_of b) (pending history))
+      → next (call 0 number address r2 r3) ≡ deliver (provided eqb number 0 then nothing else waits) (map (upcall_of b) (pending history))
   pub resumes : (record_of a now).status ≡ waiting → next resume ≡ deliver waits (map (upcall_of b) (pending history))
   -- the queue is what is pending, and every slot that the board has holds the last pair
   pub queue : (record_of a now).queue ≡ map (upcall_of b) (pending history)

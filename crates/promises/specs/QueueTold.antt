@@ -7,7 +7,7 @@ use mathlib.Core.List.{List, [], ◌∷◌, ◌++◌, tail, map}
 use Rattle.std.proofs.Math.ListN.{length}
 use Rattle.std.proofs.Math.Dec.{eqb}
 use Rattle.std.proofs.lemmas.Bool.{eqb-false, not-true}
-use Rattle.definition.specs.Tests.{if◌then◌else◌, Each, none, more}
+use Rattle.definition.specs.Tests.{provided◌then◌else◌, Each, none, more}
 use Rattle.definition.specs.Board.{Board, Kind, subscribe, read_write, read_only, place_of}
 use Rattle.definition.specs.State.{Pair, Upcall, Status, Process, held, cleared, Claim, free}
 use Rattle.definition.specs.Answer.{Answer, refused, registers, delivered, waits, nothing, taken, deposited, latched, started, terminated, restarted, fetched, SUCCESS_WITH_2_U32, success_with2}
@@ -36,7 +36,7 @@ pub record QueueTold (b : Board) (queue : List Upcall) (hs : List Heard) : Type 
 
 -- answers that tell of no exchange, delivery, event or exit leave what is pending
 plain_pending : (holds : ℕ → ℕ → Pair) (a : Action) (y : Answer) (q : List Pending) → is_plain y ≡ true → pending_after holds a y q ≡ q
-unfolding pending_after if◌then◌else◌
+unfolding pending_after provided◌then◌else◌
 plain_pending holds a (refused n) q e = refl
 plain_pending holds a (registers r0 r1 r2 r3) q e = rw (not-true (eqb r0 SUCCESS_WITH_2_U32) e)
 plain_pending holds a (delivered pointer r0 r1 r2 r3) q e = clash e refl
@@ -128,23 +128,23 @@ module _ (b : Board) (driver k j : ℕ) (place : place_of b.drivers driver ≡ k
       go false q = ne_eqb _ _ (λ x. eqb-false u.driver driver q (place_one b.drivers u.driver driver h (x ∙ sym place)))
 
   cancel_without : (q : List Pending) → Each (Known b) q → cancel k j (map (upcall_of b) q) ≡ map (upcall_of b) (without driver j q)
-  unfolding cancel without if◌then◌else◌
+  unfolding cancel without provided◌then◌else◌
   cancel_without [] none = refl
   cancel_without (u ∷ q) (more h hs) = rw (same_test u h) (go (eqb u.driver driver && eqb u.slot j) (cancel_without q hs))
     where
       go : (t : Bool) → cancel k j (map (upcall_of b) q) ≡ map (upcall_of b) (without driver j q)
-          → (if t then cancel k j (map (upcall_of b) q) else upcall_of b u ∷ cancel k j (map (upcall_of b) q)) ≡ map (upcall_of b) (if t then without driver j q else u ∷ without driver j q)
+          → (provided t then cancel k j (map (upcall_of b) q) else upcall_of b u ∷ cancel k j (map (upcall_of b) q)) ≡ map (upcall_of b) (provided t then without driver j q else u ∷ without driver j q)
       go true ih = ih
       go false ih = ap (λ r. upcall_of b u ∷ r) ih
 
 -- those that are left are of other slots
 left_over : {P : Pending → Type 0} (driver j : ℕ) (q : List Pending) → Each P q → Each (λ u. P u × ((eqb u.driver driver && eqb u.slot j) ≡ false)) (without driver j q)
-unfolding without if◌then◌else◌
+unfolding without provided◌then◌else◌
 left_over driver j [] none = none
 left_over {P} driver j (u ∷ q) (more p ps) = go (eqb u.driver driver && eqb u.slot j) refl (left_over driver j q ps)
   where
     go : (t : Bool) → (eqb u.driver driver && eqb u.slot j) ≡ t → Each (λ u. P u × ((eqb u.driver driver && eqb u.slot j) ≡ false)) (without driver j q)
-        → Each (λ u. P u × ((eqb u.driver driver && eqb u.slot j) ≡ false)) (if t then without driver j q else u ∷ without driver j q)
+        → Each (λ u. P u × ((eqb u.driver driver && eqb u.slot j) ≡ false)) (provided t then without driver j q else u ∷ without driver j q)
     go true e ih = ih
     go false e ih = more (p, e) ih
 
@@ -159,7 +159,7 @@ eqb_sym x y = go (eqb y x) refl
 module _ (b : Board) (driver j r2 r3 : ℕ) (old : Pair) (queue : List Upcall) (hs : List Heard) (t : QueueTold b queue hs) where
   -- a subscribe leaves the upcalls of other slots
   subscribe_queue : (k : ℕ) → Slot b subscribe driver k j → QueueTold b (cancel k j queue) (record { action = call (class_of subscribe) driver j r2 r3; answer = success_with2 old } ∷ hs)
-  unfolding pending pending_after cancelled_by if◌then◌else◌ cancels
+  unfolding pending pending_after cancelled_by provided◌then◌else◌ cancels
   subscribe_queue k s = record {
     same = ap (cancel k j) t.same ∙ cancel_without b driver k j s.place s.installed (pending hs) t.known;
     known = each_map (λ u h. h.0) (left_over driver j (pending hs) t.known);
@@ -174,9 +174,9 @@ module _ (b : Board) (driver j r2 r3 : ℕ) (old : Pair) (queue : List Upcall) (
 
   -- an allow leaves all of them
   allow_queue : (class : ℕ) → eqb class (class_of subscribe) ≡ false → QueueTold b queue (record { action = call class driver j r2 r3; answer = success_with2 old } ∷ hs)
-  unfolding pending pending_after cancelled_by if◌then◌else◌ cancels
+  unfolding pending pending_after cancelled_by provided◌then◌else◌ cancels
   allow_queue class e =
-      let same : (if eqb class (class_of subscribe) then without driver j (pending hs) else pending hs) ≡ pending hs = rw e in
+      let same : (provided eqb class (class_of subscribe) then without driver j (pending hs) else pending hs) ≡ pending hs = rw e in
       uncancelled_queue b _ hs (λ d i. rw e) queue (pending hs) same t.same t.known t.events
 
 -- ---- each outcome

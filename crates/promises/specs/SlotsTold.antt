@@ -3,7 +3,7 @@ use Rattle.std.specs.Prelude.{ℕ, ◌<◌, ◌≡◌, ◌≢◌, Bool, true, fa
 use Rattle.std.proofs.Math.Path.{refl, sym}
 use Rattle.std.proofs.Common.{ap, ◌∙◌, subst, arith, get_or-set_same, get_or-set_other, eqb-true, eq-eqb}
 use Rattle.std.proofs.lemmas.Bool.{not-true}
-use Rattle.definition.specs.Tests.{if◌then◌else◌}
+use Rattle.definition.specs.Tests.{provided◌then◌else◌}
 use Rattle.definition.specs.Limits.{max_drivers, max_slots, all_slots}
 use Rattle.definition.specs.Board.{Board, Kind, subscribe, read_write, read_only, place_of}
 use Rattle.definition.specs.State.{Pair, null, Upcall, Status, Process, held, slot_at, cleared, Claim, free}
@@ -58,21 +58,21 @@ command_plain p n c =
 
 module _ (kind : Kind) (driver j : ℕ) (a : Action) (y : Answer) (hs : List Heard) where
   pub last_silent : Silent y → last_pair kind driver j (record { action = a; answer = y } ∷ hs) ≡ last_pair kind driver j hs
-  unfolding last_pair if◌then◌else◌
+  unfolding last_pair provided◌then◌else◌
   last_silent s = rw (s.exit, s.exchange)
 
   last_exit : is_exit y ≡ true → last_pair kind driver j (record { action = a; answer = y } ∷ hs) ≡ null
-  unfolding last_pair if◌then◌else◌
+  unfolding last_pair provided◌then◌else◌
   last_exit e = rw e
 
 -- an accepted exchange: of this slot, and of another
 module _ (kind : Kind) (driver j : ℕ) (a : Action) (old : Pair) (hs : List Heard) where
   last_here : names kind driver j a ≡ true → last_pair kind driver j (record { action = a; answer = success_with2 old } ∷ hs) ≡ passed a
-  unfolding last_pair if◌then◌else◌
+  unfolding last_pair provided◌then◌else◌
   last_here e = rw e
 
   last_there : names kind driver j a ≡ false → last_pair kind driver j (record { action = a; answer = success_with2 old } ∷ hs) ≡ last_pair kind driver j hs
-  unfolding last_pair if◌then◌else◌
+  unfolding last_pair provided◌then◌else◌
   last_there e = rw e
 
 pub same_kind : (kind kind' : Kind) → eqb (class_of kind') (class_of kind) ≡ true → kind ≡ kind'

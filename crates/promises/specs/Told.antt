@@ -5,7 +5,7 @@ use Rattle.std.proofs.Common.{inl, inr, arith, leb-true, ltb-true, eqb-true, le-
 use Rattle.std.proofs.Math.Logic.Iff as Iff
 use Rattle.std.proofs.Math.Logic.{and-true}
 use Rattle.std.proofs.Math.Bool.{true, false}
-use Rattle.definition.specs.Tests.{if◌then◌else◌, all_of, every_below, contains}
+use Rattle.definition.specs.Tests.{provided◌then◌else◌, all_of, every_below, contains}
 use Rattle.laws.specs.Facts.{clash, both, and, implied, implies, below_at, at_below, contains_true, true_contains}
 use Rattle.promises.specs.Accepted.{Lies}
 
@@ -57,20 +57,20 @@ every_told n f P h = (λ e i q. (h i).0 (below_at n f e i q), λ g. at_below n f
 
 module _ {A : Type 0} (S : A → Type 0) where
   module _ {P Q : Type 0} where
-    pub if_told : (t : Bool) (x y : A) → Tells t P → S x ↔ Q → ¬ S y → S (if t then x else y) ↔ (P × Q)
-    unfolding if◌then◌else◌
+    pub if_told : (t : Bool) (x y : A) → Tells t P → S x ↔ Q → ¬ S y → S (provided t then x else y) ↔ (P × Q)
+    unfolding provided◌then◌else◌
     if_told true x y f g n = (λ s. (f.0 refl, g.0 s), λ h. g.1 h.1)
     if_told false x y f g n = (λ s. absurd (n s), λ h. clash (f.1 h.0) refl)
 
-    pub unless_told : (t : Bool) (x y : A) → Tells t P → ¬ S x → S y ↔ Q → S (if not t then x else y) ↔ (P × Q)
-    unfolding if◌then◌else◌
+    pub unless_told : (t : Bool) (x y : A) → Tells t P → ¬ S x → S y ↔ Q → S (provided not t then x else y) ↔ (P × Q)
+    unfolding provided◌then◌else◌
     unless_told true x y f n g = (λ s. (f.0 refl, g.0 s), λ h. g.1 h.1)
     unless_told false x y f n g = (λ s. absurd (n s), λ h. clash (f.1 h.0) refl)
 
   -- where the other side always has it
   module _ {P : Type 0} where
-    pub if_holds : (t : Bool) (x y : A) → Tells t P → S x → ¬ S y → S (if t then x else y) ↔ P
+    pub if_holds : (t : Bool) (x y : A) → Tells t P → S x → ¬ S y → S (provided t then x else y) ↔ P
     if_holds t x y f s n = Iff.trans (if_told t x y f (λ _. tt {0}, λ _. s) n) and-true
 
-    pub unless_holds : (t : Bool) (x y : A) → Tells t P → ¬ S x → S y → S (if not t then x else y) ↔ P
+    pub unless_holds : (t : Bool) (x y : A) → Tells t P → ¬ S x → S y → S (provided not t then x else y) ↔ P
     unless_holds t x y f n s = Iff.trans (unless_told t x y f n (λ _. tt {0}, λ _. s)) and-true

@@ -1,6 +1,6 @@
 -- Wrong layers. Each is refuted on every demand that speaks of it (`Refuted`, docs/PROMISES.md).
 use Rattle.std.specs.Prelude.{ℕ, ◌+◌, ◌%◌, ◌^◌, Bool, true, false, ◌&&◌, not, set, leb, eqb}
-use Rattle.definition.specs.Tests.{if◌then◌else◌}
+use Rattle.definition.specs.Tests.{provided◌then◌else◌}
 use Rattle.definition.specs.Board.{Board, read_write, areas_at, place_of, installed, has_slot, permits}
 use Rattle.definition.specs.State.{Pair, Process, held, with_queue, State}
 use Rattle.definition.specs.Answer.{Part, Answer, refused, registers, fetched, failure, failure_with2, success, success_with2, RESERVE, INVAL, NOSUPPORT, NODEVICE, is_accepted, number_of}
@@ -56,7 +56,7 @@ first_repeated s x stores = always (table_step s x).answer stores
 
 -- INVAL to everything but yields, which it answers truthfully
 abbrev pub inval_but_yields : (Step → Lent → Lent) → Layer
-inval_but_yields stores = stepping (λ s x. if is_call 0 s then table_step s x else gave (failure INVAL) (stores s x))
+inval_but_yields stores = stepping (λ s x. provided is_call 0 s then table_step s x else gave (failure INVAL) (stores s x))
 
 -- ---- the definition, but for one thing
 
@@ -68,7 +68,7 @@ nothing_stored = stepping (λ s x. gave (table_step s x).answer x)
 abbrev pub other_part : (Part → Part) → Layer
 other_part made = stepping (λ s x.
     let o = table_step s x in
-    if is_fetch s then gave (fetched (number_of o.answer) (made (part_of o.answer))) o.after else o)
+    provided is_fetch s then gave (fetched (number_of o.answer) (made (part_of o.answer))) o.after else o)
 
 -- the process's step, by its registers where it is a call; other steps are the definition's
 abbrev by_calls : ((p class r0 r1 r2 r3 : ℕ) → Lent → Out Lent → Out Lent) → Step → Lent → Out Lent
@@ -87,18 +87,18 @@ within32 low high address size = leb low address && leb ((address + size) % 2 ^ 
 abbrev pub sum32 : Layer
 sum32 = stepping (by_calls λ p class r0 r1 r2 r3 x o.
     let w = world_of x in
-    if eqb class 3 && (is_accepted (table_step (own p (call 3 r0 r1 0 0)) x).answer && within32 (areas_at w.state.board p).ram_start (process_at w.state p).break r2 r3)
+    provided eqb class 3 && (is_accepted (table_step (own p (call 3 r0 r1 0 0)) x).answer && within32 (areas_at w.state.board p).ram_start (process_at w.state p).break r2 r3)
     then out_of (perform p (exchanges read_write (place_of w.state.board.drivers r0) r1 (pair r2 r3)) w) else o)
 
 -- an accepted read-write allow returns the buffer that process 0 held there
 abbrev pub anothers_buffer : Layer
 anothers_buffer = stepping (by_calls λ p class r0 r1 r2 r3 x o.
     let s = state_of x.table in
-    if eqb class 3 && is_accepted o.answer then gave (success_with2 (held read_write (process_at s 0) (place_of s.board.drivers r0) r1)) o.after else o)
+    provided eqb class 3 && is_accepted o.answer then gave (success_with2 (held read_write (process_at s 0) (place_of s.board.drivers r0) r1)) o.after else o)
 
 -- every claim of a shared driver is granted
 abbrev pub every_claim : Layer
-every_claim = stepping (by_calls λ p class r0 r1 r2 r3 x o. if sends_shared (state_of x.table).board (call class r0 r1 r2 r3) && eqb r1 1 then gave success o.after else o)
+every_claim = stepping (by_calls λ p class r0 r1 r2 r3 x o. provided sends_shared (state_of x.table).board (call class r0 r1 r2 r3) && eqb r1 1 then gave success o.after else o)
 
 -- the process that a step names
 abbrev caller_of : Step → ℕ
@@ -114,7 +114,7 @@ abbrev pub upcalls_kept : Layer
 upcalls_kept = stepping (λ s x.
     let w = world_of x in
     let o = step s w in
-    if is_call 1 s then gave o.answer (lent_of (record { state = with_queue_of (caller_of s) w.state o.after.state; memory = o.after.memory; flash = o.after.flash })) else out_of o)
+    provided is_call 1 s then gave o.answer (lent_of (record { state = with_queue_of (caller_of s) w.state o.after.state; memory = o.after.memory; flash = o.after.flash })) else out_of o)
 
 -- ---- the definition, but for what a call of a driver that is denied to the process is answered
 
@@ -123,7 +123,7 @@ abbrev to_denied : ((class k j : ℕ) → Pair → Board → Process → Answer)
 to_denied said = stepping (by_calls λ p class r0 r1 r2 r3 x o.
     let s = state_of x.table in
     let k = place_of s.board.drivers r0 in
-    if (leb 1 class && leb class 4) && ((installed s.board k && not (permits (areas_at s.board p) k)) && eqb (number_of o.answer) 0)
+    provided (leb 1 class && leb class 4) && ((installed s.board k && not (permits (areas_at s.board p) k)) && eqb (number_of o.answer) 0)
     then gave (said class k r1 (pair r2 r3) s.board (process_at s p)) o.after else o)
 
 -- plain Failure in every class, as document 01 had it
@@ -133,15 +133,15 @@ denied_plain = to_denied (λ class k j x b process. failure NODEVICE)
 -- the slot number is looked at first: NOSUPPORT for a slot that the driver does not have
 abbrev pub slot_first : Layer
 slot_first = to_denied (λ class k j x b process.
-    if eqb class 2 then failure NODEVICE else if has_slot (lent_by class) b k j then not_installed (lent_by class) x else failure_with2 NOSUPPORT x)
+    provided eqb class 2 then failure NODEVICE else provided has_slot (lent_by class) b k j then not_installed (lent_by class) x else failure_with2 NOSUPPORT x)
 
 -- the slot is looked up: NODEVICE, with what it holds
 abbrev pub slot_looked_up : Layer
-slot_looked_up = to_denied (λ class k j x b process. if eqb class 2 then failure NODEVICE else failure_with2 NODEVICE (held (lent_by class) process k j))
+slot_looked_up = to_denied (λ class k j x b process. provided eqb class 2 then failure NODEVICE else failure_with2 NODEVICE (held (lent_by class) process k j))
 
 -- RESERVE to a command, as if another process owned the driver
 abbrev pub denied_reserved : Layer
-denied_reserved = to_denied (λ class k j x b process. if eqb class 2 then failure RESERVE else not_installed (lent_by class) x)
+denied_reserved = to_denied (λ class k j x b process. provided eqb class 2 then failure RESERVE else not_installed (lent_by class) x)
 
 -- ---- a start that always refuses, by any number; its steps are the definition's
 

@@ -5,7 +5,7 @@ use Rattle.std.specs.Prelude.{◌≡◌, refl, false, List, [], ◌∷◌, lengt
 use Rattle.std.proofs.Common.{sym, ◌∙◌}
 use Rattle.std.proofs.Math.Path.{ap}
 use Rattle.std.specs.Borrow.{Bor}
-use Rattle.definition.specs.Tests.{if◌then◌else◌}
+use Rattle.definition.specs.Tests.{provided◌then◌else◌}
 use Rattle.definition.specs.Board.{subscribe}
 use Rattle.definition.specs.State.{held, free, State}
 use Rattle.definition.specs.Answer.{memory, empty_part, Answer, refused, waits, taken, deposited, latched, fetched, failure, INVAL, number_of}
@@ -237,7 +237,7 @@ module _ (r : Fetched) where
 module _ (old : List ℕ) (y : Lent) (new : List ℕ) (size : length old ≡ 64) where
   -- any other place or number of bytes
   pub replay_elsewhere : (r : Progress) → (r ≡ Paused 37 20 → ⊥) → ¬ Plays whole_trace zeros 0 old r y new
-  unfolding in_room play_at if◌then◌else◌
+  unfolding in_room play_at provided◌then◌else◌
   replay_elsewhere r other p =
       other (p.told ∙ ap (λ k. progress_by (in_room k).stop (length (in_room k).written)) size
       ∙ ap (λ l. told (get_or l 1 (at_end, 0))) rooms_kept)

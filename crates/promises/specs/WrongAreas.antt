@@ -2,7 +2,7 @@
 -- layer's statement refutes.
 use Rattle.std.specs.Prelude.{ℕ, suc, ◌+◌, ◌≤◌, ◌≡◌, refl, Bool, true, [], eqb}
 use Rattle.std.proofs.Common.{sym, ap, ◌∙◌, arith}
-use Rattle.definition.specs.Tests.{if◌then◌else◌, contains, within}
+use Rattle.definition.specs.Tests.{provided◌then◌else◌, contains, within}
 use Rattle.definition.specs.Board.{Areas, Kind, read_only, areas_at}
 use Rattle.definition.specs.State.{Pair, State}
 use Rattle.definition.specs.Call.{pair}
@@ -22,9 +22,9 @@ use Rattle.promises.specs.LocatedExactly.{one_answer}
 -- a test of RAM of one's own, and else as it should be
 abbrev by_ram : (Areas → ℕ → Pair → Bool) → Areas → ℕ → Pair → Area
 by_ram ram a break x =
-    if eqb x.second 0 then empty
-    else if ram a break x then in_ram
-    else if within a.flash_start a.flash_end x.first x.second then in_flash
+    provided eqb x.second 0 then empty
+    else provided ram a break x then in_ram
+    else provided within a.flash_start a.flash_end x.first x.second then in_flash
     else outside
 
 -- a buffer may end one past the break
@@ -42,9 +42,9 @@ to_the_end = by_ram (λ a break x. within a.ram_start a.ram_end x.first x.second
 -- flash is tested before the size is
 unfoldable pub flash_first : Areas → ℕ → Pair → Area
 flash_first a break x =
-    if within a.flash_start a.flash_end x.first x.second then in_flash
-    else if eqb x.second 0 then empty
-    else if within a.ram_start break x.first x.second then in_ram
+    provided within a.flash_start a.flash_end x.first x.second then in_flash
+    else provided eqb x.second 0 then empty
+    else provided within a.ram_start break x.first x.second then in_ram
     else outside
 
 -- every buffer is in RAM
@@ -105,7 +105,7 @@ area_elsewhere r other e = other (e ∙ flash_told)
 
 -- a question about the image of a good state is answered on that state
 on_image : (s : State) → good_state s ≡ true → (kind : Kind) (p driver j : ℕ) → locate kind p driver j (image_of s) ≡ located kind p driver j s
-unfolding locate if◌then◌else◌
+unfolding locate provided◌then◌else◌
 on_image s g kind p driver j = rw (image_well_formed s g) (ap (located kind p driver j) (good_back s g))
 
 -- the buffer of slot 0, or any other, told of slot 1, which the driver does not have

@@ -1,7 +1,7 @@
 -- A reader of records that makes up the length of a deposit's bytes is refuted on the reader's own equation.
 use Rattle.std.specs.Prelude.{ℕ, ◌-◌, ◌≡◌, List, [], ◌∷◌}
 use Rattle.std.proofs.Common.{ap}
-use Rattle.definition.specs.Tests.{if◌then◌else◌}
+use Rattle.definition.specs.Tests.{provided◌then◌else◌}
 use Rattle.definition.specs.Trace.{and_then, group, groups, number, fields, bytes, kinds, bytes_after, record_of, one_record, read_at}
 use Rattle.trace.specs.Meaning.{record_found}
 use Rattle.trace.specs.declared.records.Read.{Read}
@@ -23,5 +23,5 @@ deposits = 3 ∷ 0 ∷ 1 ∷ 0 ∷ 0 ∷ 2 ∷ 10 ∷ 20 ∷ []
 
 -- whatever reader tells that it has another number of bytes
 pub reader_wrong : (read : List ℕ → ℕ → Read) → (bytes_told (read deposits 0) ≡ 2 → ⊥) → ¬ Reads read
-unfolding deposits if◌then◌else◌ and_then group groups number fields bytes kinds bytes_after record_of one_record read_at
+unfolding deposits provided◌then◌else◌ and_then group groups number fields bytes kinds bytes_after record_of one_record read_at
 reader_wrong read other e = other (ap bytes_told (e deposits 0))

@@ -4,7 +4,7 @@ use Rattle.std.specs.Prelude.{ℕ, ◌≡◌, Bool, List, [], ◌∷◌, ◌++�
 use Rattle.std.proofs.Math.Path.{refl, sym}
 use Rattle.std.proofs.Common.{ap, ◌∙◌, subst}
 use Rattle.std.proofs.Math.Bool.{true, false}
-use Rattle.definition.specs.Tests.{if◌then◌else◌}
+use Rattle.definition.specs.Tests.{provided◌then◌else◌}
 use Rattle.definition.specs.Decide.{resume}
 use Rattle.definition.specs.World.{Step, own, latch, Out}
 use Rattle.definition.specs.Image.{well_formed}
@@ -27,7 +27,7 @@ module _ (step : Lent → Out Lent) (x y : Lent) (r : Bool) (out out' : List ℕ
   -- with room for six words it is the step, and its answer's words are told
   module _ (room : leb 6 (length out) ≡ true) where
     whole : told true (step x).after (answer_words (step x).answer ++ drop 6 out) ≡ told r y out'
-    unfolding tell if◌then◌else◌
+    unfolding tell provided◌then◌else◌
     whole = sym (rw room) ∙ e
 
     pub step_made : (step x).after ≡ y
@@ -43,7 +43,7 @@ module _ (step : Lent → Out Lent) (x y : Lent) (r : Bool) (out out' : List ℕ
   -- with less room nothing is done, and it does not say that something was
   module _ (short : leb 6 (length out) ≡ false) where
     none : told false x out ≡ told r y out'
-    unfolding tell if◌then◌else◌
+    unfolding tell provided◌then◌else◌
     none = sym (rw short) ∙ e
 
     pub nothing_made : x ≡ y
@@ -91,7 +91,7 @@ module _ (r : Bool) (out out' : List ℕ) (room : leb 6 (length out) ≡ true) w
 module _ (words out out' : List ℕ) (r : Bool) (e : answered words out ≡ (r, out')) where
   module _ (room : leb 6 (length out) ≡ true) where
     asked_whole : ◌≡◌ {A = Bool × List ℕ} (true, words ++ drop 6 out) (r, out')
-    unfolding answered if◌then◌else◌
+    unfolding answered provided◌then◌else◌
     asked_whole = sym (rw room) ∙ e
 
     pub asked_told : words ++ drop 6 out ≡ out'
@@ -102,7 +102,7 @@ module _ (words out out' : List ℕ) (r : Bool) (e : answered words out ≡ (r, 
 
   module _ (short : leb 6 (length out) ≡ false) where
     asked_none : ◌≡◌ {A = Bool × List ℕ} (false, out) (r, out')
-    unfolding answered if◌then◌else◌
+    unfolding answered provided◌then◌else◌
     asked_none = sym (rw short) ∙ e
 
     pub asked_nothing_written : out ≡ out'
@@ -113,7 +113,7 @@ module _ (words out out' : List ℕ) (r : Bool) (e : answered words out ≡ (r, 
 
 -- process 0's buffer in flash is said to lie anywhere else
 pub mk_area_elsewhere : (r : Bool) (out out' : List ℕ) → leb 6 (length out) ≡ true → (get_or out' 1 0 ≡ 2 → ⊥) → ¬ (answered (located_words (locate (lent_by 4) 0 1 0 flashLent)) out ≡ (r, out'))
-unfolding if◌then◌else◌
+unfolding provided◌then◌else◌
 mk_area_elsewhere r out out' room other e =
     other (ap (λ l. get_or l 1 0) (sym (asked_told _ out out' r e room)) ∙ ap (λ a. get_or (located_words a ++ drop 6 out) 1 0) flash_told)
 
@@ -133,9 +133,9 @@ mk_check_accepts e = clash (sym e) refl
 -- with room for three words it is not silent, and where there is less room it does not say that something was done
 module _ (s : List ℕ) (x y : Lent) (i : ℕ) (old new out out' : List ℕ) where
   pub mk_replay_silent : leb 3 (length out) ≡ true → ¬ Runs s x i old out false y new out'
-  unfolding Runs if◌then◌else◌
-  mk_replay_silent room e = clash refl (sym (subst (λ b. if b then RunTold s x i old out false y new out' else NotRun x old out false y new out') room e).0)
+  unfolding Runs provided◌then◌else◌
+  mk_replay_silent room e = clash refl (sym (subst (λ b. provided b then RunTold s x i old out false y new out' else NotRun x old out false y new out') room e).0)
 
   pub mk_replay_short : leb 3 (length out) ≡ false → ¬ Runs s x i old out true y new out'
-  unfolding Runs if◌then◌else◌
-  mk_replay_short short e = clash refl (subst (λ b. if b then RunTold s x i old out true y new out' else NotRun x old out true y new out') short e).0
+  unfolding Runs provided◌then◌else◌
+  mk_replay_short short e = clash refl (subst (λ b. provided b then RunTold s x i old out true y new out' else NotRun x old out true y new out') short e).0

@@ -1,18 +1,18 @@
 -- Yield numbers 0 and 1 are known; every other is set aside with "nothing".
 use mathlib.Core.Path.{sym, ap}
 use borrow.Author.Tests.{ne_eqb}
-use Rattle.definition.specs.Tests.{if◌then◌else◌}
+use Rattle.definition.specs.Tests.{provided◌then◌else◌}
 use Rattle.definition.specs.Call.{decode_yield}
 use Rattle.calls.proofs.decode.decode_yield.Goals as goal
 
 pub returns-then-number-eq0 : goal.returns-then-number-eq0
-unfolding if◌then◌else◌ decode_yield
+unfolding provided◌then◌else◌ decode_yield
 returns-then-number-eq0 c = ap (λ n. decode_yield n c.args.address) (sym c.if-number-eq0.true)
 
 pub returns-then-number-eq1 : goal.returns-then-number-eq1
-unfolding if◌then◌else◌ decode_yield
+unfolding provided◌then◌else◌ decode_yield
 returns-then-number-eq1 c = ap (λ n. decode_yield n c.args.address) (sym c.if-number-eq1.true)
 
 pub returns : goal.returns
-unfolding if◌then◌else◌ decode_yield
+unfolding provided◌then◌else◌ decode_yield
 returns c = rw (ne_eqb _ _ c.if-number-eq0.false, ne_eqb _ _ c.if-number-eq1.false)
