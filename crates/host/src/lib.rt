@@ -1,8 +1,8 @@
-// What a C or Rust host calls: the layer's steps on numbers and slices, where a held buffer lies, and its run over a trace. Each takes any
+// What a C or Rust host calls: the layer's steps on numbers and slices, where a held buffer lies, its run over a trace, and its sizes. Each takes any
 // numbers and slices; a step says what it did in six words of a slice that the host lends, and the run in three.
 #![tactic(auto)]
 
-ghost use Rattle.std.specs.Prelude.{◌≡◌};
+ghost use Rattle.std.specs.Prelude.{◌≡◌, get_or};
 ghost use Rattle.definition.specs.Decide.{call, event, resume, deposit, fetch};
 ghost use Rattle.definition.specs.World.{own, latch};
 ghost use Rattle.definition.specs.Signed.{word_of};
@@ -12,11 +12,35 @@ ghost use Rattle.definition.specs.Located.{locate, lent_by};
 ghost use Rattle.layer.specs.Steps.{lent};
 ghost use Rattle.host.specs.Answers.{located_words, Writes, WritesAlone, WritesOnly, answered};
 ghost use Rattle.host.specs.Runs.{Runs};
+ghost use Rattle.host.specs.Sizes.{sizes};
 
 mod answers;
 mod progress;
 
-use types::{Driver, Process, Registers};
+use table::Table;
+use trace::records::Board;
+use types::{Driver, Image, Process, Registers};
+
+// A limit or a size by its place in `sizes`, for who has to know whether the library is the one that a host was compiled for; 0 at any other place.
+pub fn mk_size(which: u32) -> u64
+    ensures { result ≡ get_or sizes which 0 }
+{
+    let sizes = [
+        Process::MAX as u64,
+        Driver::MAX as u64,
+        Driver::SLOTS as u64,
+        Process::QUEUE as u64,
+        Table::WORDS as u64,
+        Board::MAX_WORDS as u64,
+        Image::BYTES as u64,
+        Image::MEMORY as u64,
+        Image::FLASH as u64,
+    ];
+    if which >= 9 {
+        return 0;
+    }
+    sizes[which as usize]
+}
 
 // Whether a lent table is well formed: any words, of any length.
 pub fn mk_table_well_formed(table: &[u32]) -> bool

@@ -1,7 +1,7 @@
 // The library that a C or Rust host links: each function of `host`, exported under its name with the promise that it has there.
 #![tactic(auto)]
 
-ghost use Rattle.std.specs.Prelude.{◌≡◌};
+ghost use Rattle.std.specs.Prelude.{◌≡◌, get_or};
 ghost use Rattle.definition.specs.Decide.{call, event, resume, deposit, fetch};
 ghost use Rattle.definition.specs.World.{own, latch};
 ghost use Rattle.definition.specs.Signed.{word_of};
@@ -11,6 +11,15 @@ ghost use Rattle.definition.specs.Located.{locate, lent_by};
 ghost use Rattle.layer.specs.Steps.{lent};
 ghost use Rattle.host.specs.Answers.{located_words, Writes, WritesAlone, WritesOnly, answered};
 ghost use Rattle.host.specs.Runs.{Runs};
+ghost use Rattle.host.specs.Sizes.{sizes};
+
+// A limit or a size by its place in `sizes`, for who has to know whether the library is the one that a host was compiled for; 0 at any other place.
+#[unsafe(no_mangle)]
+pub extern "C" fn mk_size(which: u32) -> u64
+    ensures { result ≡ get_or sizes which 0 }
+{
+    host::mk_size(which)
+}
 
 // Whether a lent table is well formed: any words, of any length.
 #[unsafe(no_mangle)]
