@@ -1,4 +1,4 @@
-/* The layer, for C and C++: its steps, its run over a trace, a question and its sizes, in the static library that `rt staticlib host` writes
+/* The layer, for C and C++: its steps, its run over a trace, a question and its sizes, in the static library that `host/library` writes
  * (target/staticlib/libhost.a, x86-64; installed, libmakvluria.a). Each is proved for any numbers and any contents and lengths;
  * crates/host/src/lib.rt has the contracts. docs/LINKING.md says the rest that a kernel has to know.
  *

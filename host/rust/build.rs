@@ -1,12 +1,11 @@
 //! Links the proved static library, `libhost.a`. It is
 //!
 //! 1. in the folder that the environment variable `MAKVLURIA_LIB` names, where it is set;
-//! 2. else in `target/staticlib` of the repository, where `rt staticlib host` writes it;
-//! 3. else made there by that command, if `rt` is on the PATH. It proves what it builds: minutes on a fresh clone.
+//! 2. else in `target/staticlib` of the repository, where `host/library` writes it;
+//! 3. else made there by that script, if the kit's `rt` is on the PATH. It proves what it builds: minutes on a fresh clone.
 //!
 //! A library that stands there is taken as it is, also where it is older than the proved code: only `rt` can tell, and it is asked by
-//! running the command again. A copy of it is linked, because `rt ci` removes `target/`. The next build then looks for the library again; one
-//! that must not start `rt` beside a running `rt ci` names a copy by the variable.
+//! running the script again. A copy of it is linked. A build that must not start `rt` beside a running `rt ci` names a copy by the variable.
 
 use std::ffi::OsString;
 use std::io::ErrorKind;
@@ -16,7 +15,7 @@ use std::{env, fs};
 
 const VARIABLE: &str = "MAKVLURIA_LIB";
 const FILE: &str = "libhost.a";
-const COMMAND: &str = "rt staticlib host";
+const COMMAND: &str = "host/library";
 /// Where the command writes the library, from the root of the repository.
 const FOLDER: &str = "target/staticlib";
 /// What the command writes it for.
@@ -115,6 +114,5 @@ fn make(
 
 /// Its output is kept back: cargo reads what a build script prints.
 fn run(root: &Path) -> std::io::Result<Output> {
-    let mut words = COMMAND.split(' ');
-    Command::new(words.next().unwrap_or_default()).args(words).current_dir(root).output()
+    Command::new(root.join(COMMAND)).current_dir(root).output()
 }

@@ -15,7 +15,7 @@ use Rattle.definition.specs.Image.{well_formed}
 use Rattle.definition.specs.Table.{Lent, start}
 use Rattle.definition.specs.Trace.{Found, found, board, read_at}
 use Rattle.definition.specs.Lines.{line_of, broken, short_line}
-use Rattle.definition.specs.Replay.{left, fits, before, Played, played, pauses, following, play_from, play_board}
+use Rattle.definition.specs.Replay.{left, fits, before, Played, played, pauses, following, play_from, play_board, play_at}
 use Rattle.laws.specs.Formed.{Begins, accepted, no_board, no_table, start_begins}
 use Rattle.laws.specs.Replays.{play_end, play_none, play_board_lem, board_goes_on, board_ends, play_from_lem}
 use Rattle.lines.specs.Puts.{Put}
@@ -25,7 +25,7 @@ use Rattle.layer.specs.declared.Progress.TheVariants.{Ended, Paused}
 use Rattle.layer.specs.declared.replays.Turn.{Turn}
 use Rattle.layer.specs.declared.replays.Turn.TheVariants as T
 use Rattle.layer.specs.Steps.{lent, gave, Starts}
-use Rattle.layer.specs.Replaying.{Leaves, Plays, room_at, Turned}
+use Rattle.layer.specs.Replaying.{progress_by, Leaves, Plays, room_at, Turned}
 use Rattle.layer.specs.StatementLaws.{forward}
 
 -- lists that are the same from one place on are so from a later one on
@@ -175,8 +175,18 @@ module _ (s words t m f : List ℕ) (a : Answer) (t' : List ℕ) (began : Starts
 
 module _ (s : List ℕ) (x : Lent) (old : List ℕ) where
   -- where there is no room for a line it has not begun
-  pub plays_none : length old < short_line → Plays s x 0 old (Paused 0 0) x old
+  plays_none : length old < short_line → Plays s x 0 old (Paused 0 0) x old
   plays_none h = leaves_paused _ old x old 0 (omega arith) refl refl 0 (play_none s x (left (length old)) (lt-leb short_line (length old) h))
+
+  -- the same by its parts, which the search looks for one by one
+  pub none_told : length old < short_line → Paused 0 0 ≡ progress_by (play_at s x 0 (left (length old))).stop (length (play_at s x 0 (left (length old))).written)
+  none_told h = (plays_none h).told
+
+  pub none_lent : length old < short_line → x ≡ (play_at s x 0 (left (length old))).after
+  none_lent h = (plays_none h).lent
+
+  pub none_lines : length old < short_line → old ≡ (play_at s x 0 (left (length old))).written ++ drop (length (play_at s x 0 (left (length old))).written) old
+  none_lines h = (plays_none h).lines
 
   module _ (h : short_line ≤ length old) where
     room : fits short_line (left (length old)) ≡ true

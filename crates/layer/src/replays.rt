@@ -84,6 +84,7 @@ fn make(
 }
 
 // The line of a fetch. It changes nothing, so that it can be made again where there is no room for its line.
+#[tactic(auto, using(crate::proofs::TurnLaws::told_refused))]
 fn put_fetch<'a>(
     table: &[u32],
     memory: &'a [u8],
@@ -149,6 +150,7 @@ fn act(
 }
 
 // The record at a place: every line but a part's fits where there is room for one.
+#[tactic(auto, using(crate::proofs::TurnLaws::turned_full))]
 fn take_turn(
     trace: &[u8],
     at: usize,
@@ -244,6 +246,7 @@ fn start_on(
 }
 
 // The whole trace, from its board on.
+#[tactic(auto, using(crate::proofs::ReplayLaws::none_told, crate::proofs::ReplayLaws::none_lent, crate::proofs::ReplayLaws::none_lines))]
 pub(crate) fn begin(
     trace: &[u8],
     table: &mut [u32],

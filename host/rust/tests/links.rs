@@ -41,7 +41,7 @@ fn never(_: &Path) -> Result<Output> {
 
 /// That a message names the command to run and the variable.
 fn assert_advice(message: &str) {
-    assert!(message.contains("`rt staticlib host`"), "{message}");
+    assert!(message.contains("`host/library`"), "{message}");
     assert!(message.contains("MAKVLURIA_LIB"), "{message}");
 }
 

@@ -1,12 +1,10 @@
-//! The program's own failures: what it cannot read or write is told on standard error, and no line is lost in silence. `./replay` makes a status of
-//! it; the program, which the language gives none, ends with 0 unless a signal ends it.
+//! The program's own failures: what it cannot read or write is told on standard error, with status 1, and no line is lost in silence.
 
 use std::env;
 use std::fs::File;
 use std::io::{Read, Write};
 use std::os::fd::OwnedFd;
 use std::os::unix::net::UnixStream;
-use std::os::unix::process::ExitStatusExt;
 use std::path::{Path, PathBuf};
 use std::process::{Command, Output, Stdio};
 use std::thread;
@@ -15,7 +13,6 @@ use std::time::Duration;
 use second::replay::replay_to_vec;
 use second::text::parse::assemble;
 
-const SIGPIPE: i32 = 13;
 const CUT_SHORT: &str = "replay: the lines could not all be written: ";
 const NOT_READ: &str = "replay: the trace could not be read: ";
 
@@ -72,6 +69,7 @@ fn shell(program: &Path, script: &str) -> Command {
 fn told(output: &Output, what: &str, why: &str) {
     let text = String::from_utf8_lossy(&output.stderr);
     assert!(text.starts_with(what) && text.contains(why) && text.ends_with('\n'), "{text}");
+    assert_eq!(output.status.code(), Some(1));
 }
 
 #[test]
@@ -87,11 +85,12 @@ fn output_that_is_full_or_closed() {
 fn a_reader_that_leaves() {
     let Some(program) = program() else { return };
     let (trace, _) = incident();
+    let mut command = Command::new(program);
     let mut child =
-        Command::new(program).stdin(Stdio::piped()).stdout(Stdio::piped()).spawn().unwrap();
+        command.stdin(Stdio::piped()).stdout(Stdio::piped()).stderr(Stdio::piped()).spawn().unwrap();
     drop(child.stdout.take());
     child.stdin.take().unwrap().write_all(&trace).unwrap();
-    assert_eq!(child.wait().unwrap().signal(), Some(SIGPIPE));
+    told(&child.wait_with_output().unwrap(), CUT_SHORT, "Broken pipe");
 }
 
 /// Runs the program with an output that does not block.

@@ -1,9 +1,10 @@
 -- Each return is a row of what is decided of an exchange, by the driver that is reached and the break; the last one does what was decided.
+use borrow.Author.Rules.{rules}
 use Rattle.layer.proofs.ExchangeLaws.{reaches, in_table, slot_bounds, exchange_absent, exchange_slotless, exchange_unheld, exchange_made}
 use Rattle.layer.proofs.known.exchange.Goals as goal
 
 pub returns-in_default : goal.returns-in_default
-returns-in_default c = exchange_absent _ c.requires.0 _ _ _ _ _ (reaches _ _ _ c.requires.1 _ c.areas_at-areas.ensures _ _ c.reach.ensures c.in_default.is) _ c.not_installed.ensures
+returns-in_default c = exchange_absent _ c.requires.0 _ _ _ _ _ (reaches _ _ _ c.requires.1 _ c.areas_at-areas.ensures _ _ c.reach.ensures c.in_default.is) _ (search rules)
 
 pub slots_at-requires : goal.slots_at-requires
 slots_at-requires c = in_table _ _ _ _ (reaches _ _ _ c.requires.1 _ c.areas_at-areas.ensures _ _ c.reach.ensures c.in-At.is) c.requires.0

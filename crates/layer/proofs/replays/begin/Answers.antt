@@ -8,7 +8,7 @@ use borrow.Author.Rules.{rules}
 use Rattle.definition.specs.Trace.{spoiled, cut}
 use Rattle.definition.specs.Replay.{play_board}
 use Rattle.trace.specs.Answers.{board_found, board_read, board_roomy}
-use Rattle.layer.proofs.ReplayLaws.{plays_none, plays_broken, plays_board}
+use Rattle.layer.proofs.ReplayLaws.{plays_broken, plays_board}
 use Rattle.layer.proofs.replays.begin.Goals as goal
 
 -- as many words as are taken are there
@@ -16,9 +16,6 @@ board_room : (n : ℕ) (l : List ℕ) → length (take n l) ≡ n → n ≤ leng
 board_room n l e = omega (arith, length-take n l)
 
 -- there is room for the largest board
-
-pub returns-then-out-lt-ROOM : goal.returns-then-out-lt-ROOM
-returns-then-out-lt-ROOM c = plays_none _ _ _ c.if-out-lt-ROOM.true
 
 pub slice_bounds-board-end : goal.slice_bounds-board-end
 slice_bounds-board-end c =
@@ -29,15 +26,15 @@ pub slice_bounds-start_on-end : goal.slice_bounds-start_on-end
 slice_bounds-start_on-end c = sym (board_read _ _ c.board_at.new.out (search rules) _ c.board_at.ensures c.in-Read.is).2
 
 pub returns-in-Read : goal.returns-in-Read
-returns-in-Read c = plays_board _ _ _ c.if-out-lt-ROOM.false _ _ (board_read _ _ c.board_at.new.out (search rules) _ c.board_at.ensures c.in-Read.is).0 _ _ _ c.start_on.ensures
+returns-in-Read c = plays_board _ _ _ (omega arith) _ _ (board_read _ _ c.board_at.new.out (search rules) _ c.board_at.ensures c.in-Read.is).0 _ _ _ c.start_on.ensures
 
 pub returns-in-Broken : goal.returns-in-Broken
 unfolding play_board
-returns-in-Broken c = plays_broken _ _ _ c.if-out-lt-ROOM.false spoiled (board_found _ _ _ (search rules) _ c.board_at.ensures c.in-Broken.is) refl _ _ c.put_broken.ensures c.put_broken.auto.out
+returns-in-Broken c = plays_broken _ _ _ (omega arith) spoiled (board_found _ _ _ (search rules) _ c.board_at.ensures c.in-Broken.is) refl _ _ c.put_broken.ensures c.put_broken.auto.out
 
 pub returns-in-Cut : goal.returns-in-Cut
 unfolding play_board
-returns-in-Cut c = plays_broken _ _ _ c.if-out-lt-ROOM.false cut (board_found _ _ _ (search rules) _ c.board_at.ensures c.in-Cut.is) refl _ _ c.put_broken-in-Cut.ensures c.put_broken-in-Cut.auto.out
+returns-in-Cut c = plays_broken _ _ _ (omega arith) cut (board_found _ _ _ (search rules) _ c.board_at.ensures c.in-Cut.is) refl _ _ c.put_broken-in-Cut.ensures c.put_broken-in-Cut.auto.out
 
 pub returns-in-NoRoom : goal.returns-in-NoRoom
 returns-in-NoRoom c = absurd (board_roomy _ _ c.board_at.new.out (search rules) _ c.board_at.ensures c.in-NoRoom.is)

@@ -8,23 +8,14 @@ use borrow.Author.Tests.{leb-true}
 use Rattle.definition.specs.Lines.{part_line}
 use Rattle.words.specs.Loops.{passed, failed}
 use Rattle.layer.specs.Replaying.{FetchTold}
-use Rattle.layer.proofs.TurnLaws.{put_as, fetch_leaves, refused_told, refused_room, part_told, part_room}
+use Rattle.layer.proofs.TurnLaws.{put_as, fetch_leaves, part_told, part_room}
 use Rattle.layer.proofs.replays.put_fetch.Goals as goal
-
-pub returns-then-number-ne0 : goal.returns-then-number-ne0
-unfolding FetchTold
-returns-then-number-ne0 c =
-    let f = c.fetch-fetched.ensures in record {
-      room = refused_room _ _ _ _ _ _ _ _ _ f c.if-number-ne0.true c.args.used c.args.out.now c.requires.1;
-      lent = fetch_leaves _ _ _ _ _ _ _ _;
-      line = put_as (refused_told _ _ _ _ _ _ _ _ _ f c.if-number-ne0.true) c.put_answer.ensures;
-    }
 
 pub returns-then-not-part_fits : goal.returns-then-not-part_fits
 unfolding FetchTold
 returns-then-not-part_fits c =
     let f = c.fetch-fetched.ensures in
-    (refl, part_room _ _ _ _ _ _ _ _ _ f c.if-number-ne0.false _ c.part-part.ensures.bytes _ _ (failed _ _ c.part_fits.ensures (ap not c.if-not-part_fits.true)))
+    (refl, part_room _ _ _ _ _ _ _ _ _ f (omega arith) _ c.part-part.ensures.bytes _ _ (failed _ _ c.part_fits.ensures (ap not c.if-not-part_fits.true)))
 
 pub put_part-requires : goal.put_part-requires
 put_part-requires c =
@@ -35,7 +26,7 @@ pub returns : goal.returns
 unfolding FetchTold
 returns c =
     let f = c.fetch-fetched.ensures in record {
-      room = part_room _ _ _ _ _ _ _ _ _ f c.if-number-ne0.false _ c.part-part.ensures.bytes _ _ (passed _ _ c.part_fits.ensures (ap not c.if-not-part_fits.false));
+      room = part_room _ _ _ _ _ _ _ _ _ f (omega arith) _ c.part-part.ensures.bytes _ _ (passed _ _ c.part_fits.ensures (ap not c.if-not-part_fits.false));
       lent = fetch_leaves _ _ _ _ _ _ _ _;
-      line = put_as (part_told _ _ _ _ _ _ _ _ _ f c.if-number-ne0.false _ c.part-part.ensures.bytes) c.put_part.ensures;
+      line = put_as (part_told _ _ _ _ _ _ _ _ _ f (omega arith) _ c.part-part.ensures.bytes) c.put_part.ensures;
     }
