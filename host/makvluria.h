@@ -1,4 +1,4 @@
-/* The layer, for C and C++: its steps, its run over a trace and a question, in the static library that `host/library` writes
+/* The layer, for C and C++: its steps, its run over a trace, a question and its sizes, in the static library that `host/library` writes
  * (target/staticlib/libhost.a, x86-64; installed, libmakvluria.a). Each is proved for any numbers and any contents and lengths;
  * crates/host/src/lib.rt has the contracts. docs/LINKING.md says the rest that a kernel has to know.
  *
@@ -26,21 +26,16 @@
 #include <stddef.h>
 #include <stdint.h>
 
+#include "makvluria_sizes.h" /* the limits, the sizes of table, board and images, and the images' addresses */
+
 #ifdef __cplusplus
 extern "C" {
 #endif
 
-/* Sizes: the words of every table, the bytes of each image, and the most words that a board has. */
-#define MK_TABLE_WORDS 4162
-#define MK_IMAGE_BYTES 65536
-#define MK_BOARD_WORDS 138
+/* The words of an answer, and of how far a run came; room for the longest line, that of a fetch of a whole image. */
 #define MK_ANSWER_WORDS 6
 #define MK_RUN_WORDS 3
-#define MK_LINES_BYTES 262167 /* room for the longest line */
-
-/* The addresses of the images' first bytes. */
-#define MK_MEMORY_BASE 0x20000000u
-#define MK_FLASH_BASE 0x00040000u
+#define MK_LINES_BYTES (23 + 4 * MK_IMAGE_BYTES)
 
 /* The kind of an answer, out[0], with the words after it; all others are 0. */
 enum mk_kind {
@@ -167,6 +162,30 @@ bool mk_replay(const uint8_t *trace, size_t trace_bytes, size_t at, uint32_t *ta
                size_t memory_bytes, const uint8_t *flash, size_t flash_bytes, uint8_t *lines, size_t lines_bytes, uint64_t *out,
                size_t out_words) MK_NEVER_NULL;
 #undef MK_NEVER_NULL
+
+/* The limits and sizes that the library itself was built for, by these numbers; 0 for any other. Each is the macro of makvluria_sizes.h with
+ * the name after MK_SIZE_, where the header and the library are of one build. */
+enum mk_size_number {
+  MK_SIZE_MAX_PROCESSES = 0,
+  MK_SIZE_MAX_DRIVERS = 1,
+  MK_SIZE_MAX_SLOTS = 2,
+  MK_SIZE_MAX_QUEUED = 3,
+  MK_SIZE_TABLE_WORDS = 4,
+  MK_SIZE_BOARD_WORDS = 5,
+  MK_SIZE_IMAGE_BYTES = 6,
+  MK_SIZE_MEMORY_BASE = 7,
+  MK_SIZE_FLASH_BASE = 8
+};
+uint64_t mk_size(uint32_t number);
+
+/* Whether they are: a kernel asks once, before it starts. With a table of another length every step is refused with MK_NO_TABLE. */
+static inline bool mk_sizes_agree(void) {
+  return mk_size(MK_SIZE_MAX_PROCESSES) == MK_MAX_PROCESSES && mk_size(MK_SIZE_MAX_DRIVERS) == MK_MAX_DRIVERS &&
+         mk_size(MK_SIZE_MAX_SLOTS) == MK_MAX_SLOTS && mk_size(MK_SIZE_MAX_QUEUED) == MK_MAX_QUEUED &&
+         mk_size(MK_SIZE_TABLE_WORDS) == MK_TABLE_WORDS && mk_size(MK_SIZE_BOARD_WORDS) == MK_BOARD_WORDS &&
+         mk_size(MK_SIZE_IMAGE_BYTES) == MK_IMAGE_BYTES && mk_size(MK_SIZE_MEMORY_BASE) == MK_MEMORY_BASE &&
+         mk_size(MK_SIZE_FLASH_BASE) == MK_FLASH_BASE;
+}
 
 /* Where an empty slice points to, whatever its own pointer is. With any other length the pointer goes on as it is: a null one is a fault
  * of the caller's, and shows as one. */

@@ -1,10 +1,18 @@
 //! One trace, replayed through the proved library and through the second program.
 
+use std::hint::black_box;
 use std::time::{Duration, Instant};
 
-use makvluria::{Progress, IMAGE_BYTES, TABLE_WORDS};
+use makvluria::{Answer, Progress, IMAGE_BYTES, TABLE_WORDS};
 use second::lines::Lines;
 use second::replay::replay_into;
+use second::trace::read_trace;
+
+use steps::make;
+
+// The tests of the Rust crate make the second program's steps by the library, too.
+#[path = "../../host/rust/tests/steps/mod.rs"]
+mod steps;
 
 /// Room for the longest line of a call that no upcall answers, `A` and four numbers of ten digits.
 const LINE: usize = 46;
@@ -61,6 +69,19 @@ impl Job {
         self.make_fresh();
         let began = Instant::now();
         replay_into(&self.trace, &mut self.plain_lines);
+        began.elapsed()
+    }
+
+    /// Makes each step of the trace by the function of the library for it, which checks the table.
+    pub fn checked(&mut self) -> Duration {
+        self.make_fresh();
+        let (board, steps) = read_trace(&self.trace).expect("it was written as one");
+        let Job { table, memory, flash, .. } = self;
+        let began = Instant::now();
+        assert_eq!(makvluria::start(table, &board), Answer::Started);
+        for step in steps {
+            let _ = black_box(make(table, memory, flash, step));
+        }
         began.elapsed()
     }
 

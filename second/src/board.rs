@@ -1,4 +1,4 @@
-//! The limits, the board's words and what makes a board good.
+//! The board's words and what makes a board good.
 
 mod check;
 
@@ -6,23 +6,20 @@ use std::fmt;
 
 use crate::fault::BoardFault;
 
+pub use crate::limits::{IMAGE_SIZE, MAX_DRIVERS, MAX_PROCESSES, MAX_SLOTS};
 pub use check::{check_board, check_driver_count, check_process_count};
 
-/// Most processes on a board.
-pub const MAX_PROCESSES: usize = 8;
-/// Most drivers on a board.
-pub const MAX_DRIVERS: usize = 16;
-/// Most slots of each of the three kinds that one driver has.
-pub const MAX_SLOTS: u32 = 4;
 /// How many kinds of slots there are.
 pub const SLOT_KINDS: usize = 3;
-/// Bytes of the memory image, and bytes of the flash image.
-pub const IMAGE_SIZE: usize = 65_536;
 
 /// The addresses that the memory image covers.
-pub const MEMORY: Area = Area::new(0x2000_0000, 0x2001_0000);
+pub const MEMORY: Area = image_at(0x2000_0000);
 /// The addresses that the flash image covers.
-pub const FLASH: Area = Area::new(0x0004_0000, 0x0005_0000);
+pub const FLASH: Area = image_at(0x0004_0000);
+
+const fn image_at(start: u32) -> Area {
+    Area::new(start, start + IMAGE_SIZE as u32)
+}
 
 /// Words of one process on a board.
 pub const PROCESS_WORDS: usize = 7;

@@ -1,8 +1,9 @@
 //! The seven call classes.
 
 use crate::board::{
-    Board, BufferArea, DriverNumber, DriverPlace, ProcessBoard, ProcessIndex, SlotKind, IMAGE_SIZE,
+    Board, BufferArea, DriverNumber, DriverPlace, ProcessBoard, ProcessIndex, SlotKind,
 };
+use crate::limits::IMAGE_SIZE;
 use crate::state::{Activity, DriverState, Machine, Pair, Process, Slot};
 use crate::step::{Answer, Refusal};
 use crate::variant::{ErrorCode, Registers, ReturnVariant};

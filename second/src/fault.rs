@@ -2,10 +2,8 @@
 
 use std::fmt;
 
-use crate::board::{
-    DRIVER_WORDS, FLASH, MAX_DRIVERS, MAX_PROCESSES, MAX_SLOTS, MEMORY, PROCESS_WORDS,
-};
-use crate::state::QUEUE_CAPACITY;
+use crate::board::{DRIVER_WORDS, FLASH, MEMORY, PROCESS_WORDS};
+use crate::limits::{MAX_DRIVERS, MAX_PROCESSES, MAX_SLOTS, QUEUE_CAPACITY};
 use crate::table::TABLE_WORDS;
 
 /// A word of a board.

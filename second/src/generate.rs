@@ -72,6 +72,12 @@ pub fn generate(seed: u64, kind: Kind, index: u64) -> Vec<u8> {
     }
 }
 
+/// Walk `index` at the limits: the same bytes for the same inputs. It is of no
+/// kind of its own, so that the traces of the kinds stay what they are.
+pub fn generate_at_limits(seed: u64, index: u64) -> Vec<u8> {
+    walk::walk_at_limits(Random::new(&[seed, Kind::ALL.len() as u64, index]))
+}
+
 /// Trace `index` of a directory of mixed kinds.
 pub fn generate_mixed(seed: u64, index: u64) -> Vec<u8> {
     generate(seed, Kind::of_index(index), index)

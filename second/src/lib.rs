@@ -14,6 +14,7 @@ pub mod board;
 pub mod call;
 pub mod fault;
 pub mod generate;
+pub mod limits;
 pub mod lines;
 pub mod number;
 pub mod random;

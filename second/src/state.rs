@@ -5,12 +5,12 @@ use std::collections::VecDeque;
 
 use crate::board::{
     Area, Board, BufferArea, DriverBoard, DriverPlace, ProcessBoard, ProcessIndex, SlotKind, FLASH,
-    IMAGE_SIZE, MAX_DRIVERS, MAX_SLOTS, MEMORY, SLOT_KINDS,
+    MEMORY, SLOT_KINDS,
 };
+use crate::limits::{IMAGE_SIZE, MAX_DRIVERS, MAX_SLOTS};
 use crate::step::Refusal;
 
-/// Most upcalls queued for one process.
-pub const QUEUE_CAPACITY: usize = 16;
+pub use crate::limits::QUEUE_CAPACITY;
 
 /// What a slot holds: an upcall's pointer and data, or a buffer's address and
 /// size. A fresh slot of any kind holds (0, 0).

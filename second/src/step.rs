@@ -1,9 +1,9 @@
 //! The steps, their answers and their refusals. Calls are in `call`.
 
 use crate::board::{BufferArea, DriverNumber, DriverPlace, ProcessIndex, SlotKind};
+use crate::limits::QUEUE_CAPACITY;
 use crate::state::{
     flash_place, memory_place, Activity, Buffer, Machine, Process, QueuedUpcall, Slot, Upcall,
-    QUEUE_CAPACITY,
 };
 use crate::variant::{Registers, ReturnVariant};
 

@@ -4,13 +4,11 @@
 mod check;
 
 use crate::board::{
-    DriverBoard, DriverPlace, ProcessBoard, DRIVER_WORDS, MAX_DRIVERS, MAX_PROCESSES, MAX_SLOTS,
-    PROCESS_WORDS, SLOT_KINDS,
+    DriverBoard, DriverPlace, ProcessBoard, DRIVER_WORDS, PROCESS_WORDS, SLOT_KINDS,
 };
 use crate::fault::BoardWord;
-use crate::state::{
-    Activity, DriverState, Machine, Pair, Process, QueuedUpcall, Slot, QUEUE_CAPACITY,
-};
+use crate::limits::{MAX_DRIVERS, MAX_PROCESSES, MAX_SLOTS, QUEUE_CAPACITY};
+use crate::state::{Activity, DriverState, Machine, Pair, Process, QueuedUpcall, Slot};
 
 pub use check::{check, is_well_formed};
 

@@ -52,6 +52,7 @@ mod layer;
 mod names;
 pub mod raw;
 mod returned;
+mod sizes;
 mod steps;
 
 pub use answer::{Answer, Image, Progress};
@@ -59,24 +60,15 @@ pub use held::{Area, Held};
 pub use layer::Layer;
 pub use names::{Class, ErrorCode, Refusal, ReturnVariant};
 pub use returned::{Registers, Returned};
+pub use sizes::{
+    BOARD_WORDS, FLASH_BASE, IMAGE_BYTES, MAX_DRIVERS, MAX_PROCESSES, MAX_QUEUED, MAX_SLOTS,
+    MEMORY_BASE, TABLE_WORDS,
+};
 #[cfg(feature = "std")]
 pub use steps::replay_all;
-pub use steps::{area, call, deposit, event, fetch, is_well_formed, latch, replay, resume, start};
-
-/// How many words a table has, for every board.
-pub const TABLE_WORDS: usize = 4162;
-
-/// How many bytes each image has.
-pub const IMAGE_BYTES: usize = 65536;
-
-/// The address of the memory image's first byte.
-pub const MEMORY_BASE: u32 = 0x2000_0000;
-
-/// The address of the flash image's first byte.
-pub const FLASH_BASE: u32 = 0x0004_0000;
-
-/// How many words the largest board has.
-pub const BOARD_WORDS: usize = 138;
+pub use steps::{
+    area, call, deposit, event, fetch, is_well_formed, latch, replay, resume, sizes_agree, start,
+};
 
 /// How many words an answer takes.
 pub const ANSWER_WORDS: usize = 6;

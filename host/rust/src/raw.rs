@@ -11,6 +11,7 @@ use crate::{Driver, Process};
 mod exports {
     // A slice is a pointer and its number of elements; a process and a driver are plain numbers.
     extern "C" {
+        pub fn mk_size(number: u32) -> u64;
         pub fn mk_table_well_formed(table: *const u32, words: usize) -> bool;
         pub fn mk_start(
             table: *mut u32,
@@ -116,6 +117,12 @@ mod exports {
             out_words: usize,
         ) -> bool;
     }
+}
+
+/// A limit or a size that the library was built for, by its number: in the order of `MAX_PROCESSES`, `MAX_DRIVERS`, `MAX_SLOTS`, `MAX_QUEUED`,
+/// `TABLE_WORDS`, `BOARD_WORDS`, `IMAGE_BYTES`, `MEMORY_BASE`, `FLASH_BASE`; 0 for any other number.
+pub fn size(number: u32) -> u64 {
+    unsafe { exports::mk_size(number) }
 }
 
 pub fn is_well_formed(table: &[u32]) -> bool {

@@ -8,7 +8,8 @@ use std::{
 
 use crate::{
     raw, Answer, Class, Driver, Held, Process, Progress, Refusal, Registers, ANSWER_WORDS,
-    RUN_WORDS,
+    BOARD_WORDS, FLASH_BASE, IMAGE_BYTES, MAX_DRIVERS, MAX_PROCESSES, MAX_QUEUED, MAX_SLOTS,
+    MEMORY_BASE, RUN_WORDS, TABLE_WORDS,
 };
 
 /// Lends six words to a step or a question, and gives what it left there.
@@ -20,6 +21,28 @@ fn told(step: impl FnOnce(&mut [u32]) -> bool) -> [u32; ANSWER_WORDS] {
 
 fn answer(step: impl FnOnce(&mut [u32]) -> bool) -> Answer {
     Answer::decode(told(step)).expect("the layer tells no other words")
+}
+
+/// Whether the library that is linked was built for the limits and sizes of this crate. An older one may stand where the build looks for it;
+/// a table of another length than its own is then refused by every step.
+///
+/// ```
+/// assert!(makvluria::sizes_agree());
+/// ```
+#[must_use]
+pub fn sizes_agree() -> bool {
+    let sizes = [
+        MAX_PROCESSES,
+        MAX_DRIVERS,
+        MAX_SLOTS,
+        MAX_QUEUED,
+        TABLE_WORDS,
+        BOARD_WORDS,
+        IMAGE_BYTES,
+        MEMORY_BASE as usize,
+        FLASH_BASE as usize,
+    ];
+    (0..).zip(sizes).all(|(number, size)| raw::size(number) == size as u64)
 }
 
 /// Whether the words are a table: the image of a state with a good board.

@@ -1,10 +1,8 @@
 //! What makes a board good, and the first word that is not.
 
-use super::{
-    field, DriverWords, ProcessBoard, ProcessWords, FLASH, MAX_DRIVERS, MAX_PROCESSES, MAX_SLOTS,
-    MEMORY, PROCESS_WORDS,
-};
+use super::{field, DriverWords, ProcessBoard, ProcessWords, FLASH, MEMORY, PROCESS_WORDS};
 use crate::fault::{ensure, BoardFault, BoardReason, BoardWord};
+use crate::limits::{MAX_DRIVERS, MAX_PROCESSES, MAX_SLOTS};
 
 /// What makes a board with these processes and drivers not good, if anything does:
 /// the counts, then each process, each driver, and what two of them share.

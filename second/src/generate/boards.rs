@@ -2,7 +2,8 @@
 
 use std::collections::BTreeSet;
 
-use crate::board::{Area, FLASH, MAX_DRIVERS, MAX_PROCESSES, MAX_SLOTS, MEMORY};
+use crate::board::{Area, FLASH, MEMORY};
+use crate::limits::{MAX_DRIVERS, MAX_PROCESSES, MAX_SLOTS};
 use crate::random::Random;
 
 #[derive(Clone, Copy, Debug, PartialEq, Eq)]
@@ -23,15 +24,23 @@ pub fn good_board(random: &mut Random, shape: Shape) -> Vec<u32> {
     board(random, shape, processes, drivers)
 }
 
+/// The words of a good board of as many processes as there can be.
+pub fn board_of_most_processes(random: &mut Random, shape: Shape) -> Vec<u32> {
+    let (_, drivers) = counts(random, shape);
+    board(random, shape, MAX_PROCESSES, drivers)
+}
+
 /// A board that would be good, were it not for one process too many.
 pub fn too_many_processes(random: &mut Random) -> Vec<u32> {
     let drivers = random.below(4);
     board(random, Shape::Tight, MAX_PROCESSES + 1, drivers)
 }
 
-/// A board that would be good, were it not for one driver too many.
+/// A board that would be good, were it not for one driver too many. It has to
+/// have a process less than there can be: a record of more words than the
+/// largest board could not be read.
 pub fn too_many_drivers(random: &mut Random) -> Vec<u32> {
-    let processes = 1 + random.below(4);
+    let processes = 1 + random.below(4.min(MAX_PROCESSES - 1));
     board(random, Shape::Tight, processes, MAX_DRIVERS + 1)
 }
 
@@ -57,7 +66,9 @@ fn board(random: &mut Random, shape: Shape, processes: usize, drivers: usize) ->
 fn counts(random: &mut Random, shape: Shape) -> (usize, usize) {
     match shape {
         Shape::Ordinary => {
-            (random.pick(&[1, 2, 2, 3, 3, 4, 8]), random.pick(&[1, 2, 2, 3, 3, 4, 6]))
+            let processes = random.pick(&[1, 2, 2, 3, 3, 4, MAX_PROCESSES]);
+            let drivers = random.pick(&[1, 2, 2, 3, 3, 4, 6]);
+            (processes.min(MAX_PROCESSES), drivers.min(MAX_DRIVERS))
         }
         Shape::Tight => (1 + random.below(MAX_PROCESSES), random.below(MAX_DRIVERS + 1)),
         Shape::Full => (MAX_PROCESSES, MAX_DRIVERS),

@@ -1,11 +1,11 @@
 //! Boundary traces: sweeps over values at and next to every edge.
 
-use crate::board::{DriverNumber, ProcessIndex, SlotKind, MAX_SLOTS};
+use crate::board::{DriverNumber, ProcessIndex, SlotKind};
 use crate::generate::boards::{good_board, Shape};
 use crate::generate::script::{Script, SlotPlace};
 use crate::generate::walk::{deposit_part, reveal, set_break};
+use crate::limits::{MAX_SLOTS, QUEUE_CAPACITY};
 use crate::random::Random;
-use crate::state::QUEUE_CAPACITY;
 
 const MOST_BYTES: usize = 24_000;
 

@@ -4,6 +4,7 @@ use crate::board::{board_words, ProcessIndex, MAX_BOARD_WORDS};
 use crate::generate::boards::{good_board, Shape};
 use crate::generate::script::Script;
 use crate::generate::walk::make_moves;
+use crate::limits::{MAX_DRIVERS, MAX_PROCESSES};
 use crate::random::Random;
 use crate::step::Step;
 use crate::trace::{kind, write_board, write_number, write_numbers, Reader, MAX_DEPOSIT_BYTES};
@@ -183,11 +184,14 @@ fn exceed_board(random: &mut Random, trace: Vec<u8>) -> Vec<u8> {
     let mut words = reader.board().expect("a good trace has a board");
     let most = MAX_BOARD_WORDS;
     if random.one_in(3) {
-        let count = random.pick(&[most as u32 + 1, 256 + words.len() as u32, u32::MAX]);
+        // In 8 bits it would be the board's own count.
+        let same_in_8_bits = (most.next_multiple_of(256) + words.len()) as u32;
+        let count = random.pick(&[most as u32 + 1, same_in_8_bits, u32::MAX]);
         let board = &records(&trace)[0];
         return replace_number(trace, board, 0, number_bytes(count));
     }
-    words.resize(random.pick(&[most, most + 1, most + 2, board_words(16, 16)]), 0);
+    let far_over = board_words(2 * MAX_PROCESSES, MAX_DRIVERS);
+    words.resize(random.pick(&[most, most + 1, most + 2, far_over]), 0);
     let mut changed = Vec::new();
     write_board(&mut changed, &words);
     changed.extend_from_slice(&trace[reader.place()..]);

@@ -1,6 +1,7 @@
 //! A few small traces, and every small damage of a trace.
 
 use crate::board::{DriverNumber, ProcessIndex};
+use crate::limits::QUEUE_CAPACITY;
 use crate::step::Step;
 use crate::trace::write_trace;
 use crate::variant::Registers;
@@ -100,9 +101,10 @@ fn commands() -> Vec<Step<'static>> {
 }
 
 fn full_queue() -> Vec<Step<'static>> {
+    const ONE_TOO_MANY: u32 = QUEUE_CAPACITY as u32 + 1;
     let mut steps = vec![subscribe(5)];
-    steps.extend((0..17).map(event));
+    steps.extend((0..ONE_TOO_MANY).map(event));
     steps.push(call(0, YIELD_WAIT));
-    steps.push(event(17));
+    steps.push(event(ONE_TOO_MANY));
     steps
 }

@@ -1,8 +1,7 @@
 //! A trace in the making, together with the state that it has reached.
 
-use crate::board::{
-    Area, DriverNumber, DriverPlace, ProcessIndex, SlotKind, FLASH, MAX_SLOTS, MEMORY,
-};
+use crate::board::{Area, DriverNumber, DriverPlace, ProcessIndex, SlotKind, FLASH, MEMORY};
+use crate::limits::{MAX_DRIVERS, MAX_SLOTS};
 use crate::random::Random;
 use crate::state::{Activity, Buffer, Machine, Pair, Slot, Upcall};
 use crate::step::{Answer, Refusal, Step};
@@ -335,7 +334,7 @@ impl Script {
         let installed = self.random.pick_any(&numbers).unwrap_or(0);
         DriverNumber(match self.random.below(10) {
             0 => installed.wrapping_add(1),
-            1 => self.random.within(0..=20),
+            1 => self.random.within(0..=MAX_DRIVERS as u32 + 4),
             2 => self.random.pick(&[u32::MAX, 0x9_0000, 0x8000_0000]),
             _ => installed,
         })
@@ -344,7 +343,7 @@ impl Script {
     pub fn any_slot(&mut self) -> u32 {
         match self.random.below(12) {
             0 => MAX_SLOTS,
-            1 => self.random.pick(&[5, 0x100, 0x8000_0000, u32::MAX]),
+            1 => self.random.pick(&[MAX_SLOTS + 1, 0x100, 0x8000_0000, u32::MAX]),
             _ => self.random.within(0..=MAX_SLOTS - 1),
         }
     }

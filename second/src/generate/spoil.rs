@@ -1,9 +1,10 @@
 //! Board traces: boards that are not good, good ones at the limits, and steps
 //! that show which it was.
 
-use crate::board::{board_words, Area, Board, FLASH, MAX_BOARD_WORDS, MAX_SLOTS, MEMORY};
+use crate::board::{board_words, Area, Board, FLASH, MAX_BOARD_WORDS, MEMORY};
 use crate::board::{DriverNumber, ProcessIndex};
 use crate::generate::boards::{good_board, too_many_drivers, too_many_processes, Shape};
+use crate::limits::{MAX_DRIVERS, MAX_SLOTS};
 use crate::random::Random;
 use crate::step::Step;
 use crate::trace::{write_board, write_step};
@@ -257,7 +258,7 @@ fn repeat_a_driver_number(random: &mut Random, words: &mut [u32]) {
 /// Mostly the bit after the last driver's.
 fn set_a_mask_bit(random: &mut Random, words: &mut [u32]) {
     let first_free = drivers(words) as u32;
-    let bit = random.pick(&[first_free, first_free, first_free, 16, 31]);
+    let bit = random.pick(&[first_free, first_free, first_free, MAX_DRIVERS as u32, 31]);
     pick_process(random, words)[MASK] |= 1 << bit;
 }
 

@@ -3,7 +3,8 @@
 //! subscribes or not; two such traces differ in that one call of each round.
 
 use crate::board::{DriverNumber, ProcessIndex};
-use crate::state::{Pair, QUEUE_CAPACITY};
+use crate::limits::{MAX_SLOTS, QUEUE_CAPACITY};
+use crate::state::Pair;
 use crate::step::Step;
 use crate::trace::write_trace;
 
@@ -41,8 +42,8 @@ const BOARD: [u32; 19] = [
     1, // process: S, E, G, B, F, FE, mask
     0x2000_0000, 0x2000_2000, 0x2000_1800, 0x2000_1000, 0x0004_0000, 0x0004_2000, 0b11,
     2, // drivers: number, subscribe, read-write and read-only slots, shared
-    0x00002, 4, 0, 0, 0,
-    0x20001, 4, 0, 0, 0,
+    0x00002, MAX_SLOTS, 0, 0, 0,
+    0x20001, MAX_SLOTS, 0, 0, 0,
 ];
 
 /// A subscribe slot: its driver's number, and its own.

@@ -1,10 +1,11 @@
 //! Walks: long runs of moves, each chosen for the state that is reached.
 
 use crate::board::{DriverNumber, ProcessIndex, SlotKind, FLASH, MEMORY};
-use crate::generate::boards::{good_board, Shape};
+use crate::generate::boards::{board_of_most_processes, good_board, Shape};
 use crate::generate::script::{Script, SlotPlace};
+use crate::limits::QUEUE_CAPACITY;
 use crate::random::Random;
-use crate::state::{Activity, Buffer, QUEUE_CAPACITY};
+use crate::state::{Activity, Buffer};
 use crate::trace::MAX_DEPOSIT_BYTES;
 
 /// Bytes after which a walk makes no more moves, and after which the look at
@@ -48,6 +49,9 @@ const MOVES: &[(Move, usize)] = &[
     (nonsense_step, 3),
 ];
 
+/// The moves that walks at the limits make besides.
+const MOVES_AT_LIMITS: &[(Move, usize)] = &[(fill_last_queue, 3), (refill_queue, 6)];
+
 /// A whole trace of moves, ending with a look at all that was reached.
 pub fn walk(mut random: Random) -> Vec<u8> {
     let shape = match random.below(16) {
@@ -64,11 +68,30 @@ pub fn walk(mut random: Random) -> Vec<u8> {
     script.into_trace()
 }
 
+/// A walk on a board of as many processes as there can be, with queues that are
+/// filled, have room again and are filled again.
+pub fn walk_at_limits(mut random: Random) -> Vec<u8> {
+    let shape = random.pick(&[Shape::Ordinary, Shape::Tight, Shape::Full]);
+    let words = board_of_most_processes(&mut random, shape);
+    let count = random.pick(&[40, 100, 200, 400]);
+    let mut script = Script::new(random, &words);
+    let moves = [MOVES, MOVES_AT_LIMITS].concat();
+    make_moves_of(&mut script, &moves, count, WALK_BYTES);
+    reveal(&mut script);
+    script.into_trace()
+}
+
 /// Up to `count` moves, with weights of this walk's own.
 pub fn make_moves(script: &mut Script, count: usize, most_bytes: usize) {
+    make_moves_of(script, MOVES, count, most_bytes);
+}
+
+fn make_moves_of(script: &mut Script, moves: &[(Move, usize)], count: usize, most_bytes: usize) {
     let factors = [0, 1, 1, 2, 4];
-    let weights: Vec<usize> =
-        MOVES.iter().map(|&(_, weight)| weight * script.random.pick(&factors)).collect();
+    let weighted: Vec<(Move, usize)> = moves
+        .iter()
+        .map(|&(chosen, weight)| (chosen, weight * script.random.pick(&factors)))
+        .collect();
     // The first moves prepare the ground: without them most others do nothing.
     for _ in 0..6 {
         if script.length() > most_bytes {
@@ -82,14 +105,14 @@ pub fn make_moves(script: &mut Script, count: usize, most_bytes: usize) {
             return;
         }
         wake_one_if_none_runs(script);
-        pick_move(script, &weights)(script);
+        pick_move(script, &weighted)(script);
     }
 }
 
-fn pick_move(script: &mut Script, weights: &[usize]) -> Move {
-    let total: usize = weights.iter().sum();
+fn pick_move(script: &mut Script, weighted: &[(Move, usize)]) -> Move {
+    let total: usize = weighted.iter().map(|&(_, weight)| weight).sum();
     let mut left = script.random.below(total.max(1));
-    for (&(chosen, _), &weight) in MOVES.iter().zip(weights) {
+    for &(chosen, weight) in weighted {
         if left < weight {
             return chosen;
         }
@@ -142,15 +165,15 @@ fn fill_queue(script: &mut Script) {
     let Some(process) = script.pick_process(Script::is_live) else {
         return;
     };
+    fill_queue_of(script, process);
+}
+
+fn fill_queue_of(script: &mut Script, process: ProcessIndex) {
     for _ in 0..script.random.within(0..=3) {
         subscribe_for(script, process);
     }
-    let more = script.random.within(0..=3) as usize;
-    for _ in 0..QUEUE_CAPACITY - script.queued(process) + more {
-        let Some(place) = pick_subscribed(script, process) else {
-            return;
-        };
-        script.event(place);
+    if events_past_full(script, process).is_none() {
+        return;
     }
     let is_null = |script: &Script, place: SlotPlace| {
         place.process == process && script.upcall(place).is_null()
@@ -158,6 +181,44 @@ fn fill_queue(script: &mut Script) {
     if let Some(place) = script.pick_slot(SlotKind::Subscribe, is_null) {
         script.event(place);
     }
+}
+
+/// Events until the queue is full, and up to three more; or none where no slot is
+/// subscribed.
+fn events_past_full(script: &mut Script, process: ProcessIndex) -> Option<()> {
+    let more = script.random.within(0..=3) as usize;
+    for _ in 0..QUEUE_CAPACITY - script.queued(process) + more {
+        let place = pick_subscribed(script, process)?;
+        script.event(place);
+    }
+    Some(())
+}
+
+/// As `fill_queue`, of the last process.
+fn fill_last_queue(script: &mut Script) {
+    let last = ProcessIndex(script.machine.processes.len() as u32 - 1);
+    if script.is_live(last) {
+        fill_queue_of(script, last);
+    }
+}
+
+/// A full queue has room again, by deliveries or by a cancel, and takes upcalls
+/// until it is full again.
+fn refill_queue(script: &mut Script) {
+    let is_full = |script: &Script, process| script.queued(process) == QUEUE_CAPACITY;
+    let Some(process) = script.pick_process(is_full) else {
+        return;
+    };
+    if script.is_running(process) && script.random.one_in(2) {
+        let place = queued_slot(script, process);
+        let pointer = script.any_pointer(process);
+        script.subscribe(place, pointer);
+    } else {
+        for _ in 0..script.random.within(1..=3) {
+            script.take_upcall(process);
+        }
+    }
+    events_past_full(script, process);
 }
 
 fn subscribe_for(script: &mut Script, process: ProcessIndex) {

@@ -9,10 +9,11 @@ use super::{
 };
 use crate::board::{
     check_board, check_driver_count, check_process_count, DriverBoard, DriverPlace, DriverWords,
-    ProcessBoard, ProcessWords, SlotKind, MAX_DRIVERS,
+    ProcessBoard, ProcessWords, SlotKind,
 };
 use crate::fault::{ensure, BoardFault, Fault, Reason};
-use crate::state::{Pair, Slot, QUEUE_CAPACITY};
+use crate::limits::{MAX_DRIVERS, QUEUE_CAPACITY};
+use crate::state::{Pair, Slot};
 
 /// Places of the words of an upcall that are checked.
 const DRIVER: usize = 0;
@@ -194,7 +195,7 @@ impl Run<'_> {
         check_zero(others, pair_at(first), Reason::NoSlot)
     }
 
-    /// The pairs of a kind: four for each driver that there could be.
+    /// The pairs of a kind: of each driver that there could be.
     fn pairs(&self, kind: SlotKind) -> &[DriverPairs; MAX_DRIVERS] {
         let pairs: &[Pair] = self.words[SLOTS_FROM..QUEUE_FROM].as_chunks().0;
         let of_drivers: &[DriverPairs] = pairs.as_chunks().0;

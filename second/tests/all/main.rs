@@ -10,6 +10,8 @@ mod faults;
 mod generator;
 mod hidden;
 mod incident;
+mod layout;
+mod limits;
 mod listing;
 mod mistakes;
 mod numbers;
