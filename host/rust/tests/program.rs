@@ -86,8 +86,12 @@ fn a_reader_that_leaves() {
     let Some(program) = program() else { return };
     let (trace, _) = incident();
     let mut command = Command::new(program);
-    let mut child =
-        command.stdin(Stdio::piped()).stdout(Stdio::piped()).stderr(Stdio::piped()).spawn().unwrap();
+    let mut child = command
+        .stdin(Stdio::piped())
+        .stdout(Stdio::piped())
+        .stderr(Stdio::piped())
+        .spawn()
+        .unwrap();
     drop(child.stdout.take());
     child.stdin.take().unwrap().write_all(&trace).unwrap();
     told(&child.wait_with_output().unwrap(), CUT_SHORT, "Broken pipe");
