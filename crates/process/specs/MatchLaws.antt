@@ -31,24 +31,24 @@ module _ (f : Upcall → Bool) where
   ]
 
   module _ (step : (i : ℕ) → further (At i) ≡ At (suc i)) where
-    is_further : (u : Upcall) (q : List Upcall) (r : Match) → f u ≡ false → IsFirst f q r → IsFirst f (u ∷ q) (further r)
-    is_further u q (At i) e h = subst (IsFirst f (u ∷ q)) (sym (step i)) (omega (arith, h.0), h.1, none_more u q i e h.2)
-    is_further u q None e h = none_more u q (length q) e h
+    goes_on : (u : Upcall) (q : List Upcall) (r : Match) → f u ≡ false → IsFirst f q r → IsFirst f (u ∷ q) (further r)
+    goes_on u q (At i) e h = subst (IsFirst f (u ∷ q)) (sym (step i)) (omega (arith, h.0), h.1, none_more u q i e h.2)
+    goes_on u q None e h = none_more u q (length q) e h
 
-    first_is : (q : List Upcall) → IsFirst f q (first_match f q)
+    is_first : (q : List Upcall) → IsFirst f q (first_match f q)
     unfolding first_match provided◌then◌else◌
-    first_is [] = λ m b. absurd (not-suc-le-zero b)
-    first_is (u ∷ q) = go (f u) refl (first_is q)
+    is_first [] = λ m b. absurd (not-suc-le-zero b)
+    is_first (u ∷ q) = go (f u) refl (is_first q)
       where
         go : (t : Bool) → f u ≡ t → IsFirst f q (first_match f q) → IsFirst f (u ∷ q) (provided t then At 0 else further (first_match f q))
         go true e h = (omega arith, e, λ m b. absurd (not-suc-le-zero b))
-        go false e h = is_further u q (first_match f q) e h
+        go false e h = goes_on u q (first_match f q) e h
 
     found : (q : List Upcall) (r : Match) → r ≡ first_match f q → IsFirst f q r
-    found q r e = subst (IsFirst f q) (sym e) (first_is q)
+    found q r e = subst (IsFirst f q) (sym e) (is_first q)
 
     only : (q : List Upcall) (r : Match) → IsFirst f q r → r ≡ first_match f q
-    only q r h = go r (first_match f q) h (first_is q)
+    only q r h = go r (first_match f q) h (is_first q)
       where
         go : (r s : Match) → IsFirst f q r → IsFirst f q s → r ≡ s
         go (At i) (At k) x y = ap At (same_place q i k x y)
@@ -61,7 +61,7 @@ module _ (f : Upcall → Bool) where
         let is : IsFirst f (drop m q) (At 0) = found (drop m q) (At 0) (sym e) in
         let inside : 0 < length q - m = subst (λ n. 0 < n) (length-drop m q) is.0 in
         let here : f (get_or q m no_upcall) ≡ true = ap f (ap (λ n. get_or q n no_upcall) (sym (add-zero m)) ∙ sym (get_or-drop m q 0 no_upcall)) ∙ is.1 in
-        go (first_match f q) (first_is q) inside here
+        go (first_match f q) (is_first q) inside here
       where
         go : (r : Match) → IsFirst f q r → 0 < length q - m → f (get_or q m no_upcall) ≡ true → (i : ℕ) × (r ≡ At i) × (i ≤ m)
         go (At i) h b t = elim (dec_lt m i) [
@@ -69,6 +69,12 @@ module _ (f : Upcall → Bool) where
           | no c ↦ (i, refl, omega arith)
         ]
         go None h b t = clash t (h m (omega arith))
+
+  is_further : (u : Upcall) (q : List Upcall) (r : Match) → f u ≡ false → IsFirst f q r → IsFirst f (u ∷ q) (further r)
+  is_further = goes_on λ i. refl
+
+  first_is : (q : List Upcall) → IsFirst f q (first_match f q)
+  first_is = is_first λ i. refl
 
   -- what is found is the first one, and nothing else is
   pub first_found : (q : List Upcall) (r : Match) → r ≡ first_match f q → IsFirst f q r
