@@ -1,14 +1,15 @@
 -- Calls of the layer's public functions, one after another, each on what the last one left: what their contracts say of them, and no more.
-use Rattle.std.specs.Prelude.{ℕ, ◌≡◌, List, [], ◌∷◌}
+use Rattle.std.specs.Prelude.{ℕ, ◌≡◌, List, [], ◌∷◌, Result}
 use Rattle.std.specs.Borrow.{Bor}
 use Rattle.definition.specs.Answer.{Part, Answer, fetched, number_of}
 use Rattle.definition.specs.Decide.{call, event, resume, deposit, fetch}
 use Rattle.definition.specs.World.{Step, own, latch}
 use Rattle.definition.specs.Table.{Lent, table_step}
+use Rattle.types.specs.declared.Refusal.{Refusal}
+use Rattle.types.specs.Meaning.{refusal_of}
 use Rattle.layer.specs.declared.Place.{Place}
-use Rattle.layer.specs.declared.Fetched.{Fetched}
 use Rattle.layer.specs.Steps.{lent, Makes, MakesAlone}
-use Rattle.layer.specs.Fetching.{part_of, part_at, IsPart, Lies, Finds}
+use Rattle.layer.specs.Fetching.{part_of, part_at, handed as place_in, IsPart, Lies, Finds}
 
 -- the number, and the part, in what the definition answers to a fetch: the contracts of its functions name them
 abbrev pub number_to : Step → Lent → ℕ
@@ -37,8 +38,8 @@ pub data Called : Step → Lent → Answer → Lent → Type 0 where
       → Called (own p (fetch driver j offset n)) (lent_at t m f) (fetched number (part_to (own p (fetch driver j offset n)) (lent_at t m f))) (lent_at t m f)
   located : {p driver j offset n : ℕ} {x : Lent} {r : Place} {number : ℕ} → number ≡ number_to (own p (fetch driver j offset n)) x
       → Lies (part_to (own p (fetch driver j offset n)) x) r → Called (own p (fetch driver j offset n)) x (fetched number (part_to (own p (fetch driver j offset n)) x)) x
-  found : {p driver j offset n : ℕ} {x : Lent} {r : Fetched} → Finds (table_step (own p (fetch driver j offset n)) x).answer x.memory x.flash r
-      → Called (own p (fetch driver j offset n)) x (fetched r.number (part_at r.place x.memory x.flash)) x
+  found : {p driver j offset n : ℕ} {x : Lent} {r : Result Place Refusal} → Finds (table_step (own p (fetch driver j offset n)) x).answer x.memory x.flash r
+      → Called (own p (fetch driver j offset n)) x (fetched (refusal_of r) (part_at (place_in r) x.memory x.flash)) x
   latched : {driver peak : ℕ} {t m f : List ℕ} {r : Answer} {t' : List ℕ} → MakesAlone (latch driver peak) t r t' → Called (latch driver peak) (lent t m f) r (lent t' m f)
 
 -- a list of steps, made by calls, with all answers

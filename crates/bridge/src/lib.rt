@@ -7,18 +7,18 @@ ghost use Rattle.definition.specs.Answer.{fetched};
 ghost use Rattle.definition.specs.Decide.{call, event, resume, deposit, fetch};
 ghost use Rattle.definition.specs.World.{own, latch};
 ghost use Rattle.definition.specs.Signed.{word_of};
-ghost use Rattle.types.specs.Meaning.{answer_of};
+ghost use Rattle.types.specs.Meaning.{given_of, refusal_of};
 ghost use Rattle.layer.specs.Steps.{lent, Starts};
-ghost use Rattle.layer.specs.Fetching.{part_at};
+ghost use Rattle.layer.specs.Fetching.{part_at, handed};
 ghost use Rattle.bridge.specs.Calls.{Called, Hands, Locates};
 ghost use Rattle.bridge.specs.Replays.{Joins};
 
-use layer::{Fetched, Place, Progress};
-use types::{Answer, Driver, Process, Registers};
+use layer::{Place, Progress};
+use types::{Answer, Driver, Process, Refusal, Registers};
 
 // Before any step: the table becomes that of the fresh state of a board, or is refused.
-pub fn start(table: &mut [u32], board: &[u32]) -> Answer
-    ensures { Starts board.now table.old (answer_of result) table.new }
+pub fn start(table: &mut [u32], board: &[u32]) -> Result<Answer, Refusal>
+    ensures { Starts board.now table.old (given_of result) table.new }
 {
     layer::start(table, board)
 }
@@ -30,8 +30,8 @@ pub fn call(
     process: Process,
     class: u8,
     registers: Registers,
-) -> Answer
-    ensures { (f : List ℕ) → Called (own process.0 (call class registers.r0 registers.r1 registers.r2 registers.r3)) (lent table.old memory.old f) (answer_of result) (lent table.new memory.new f) }
+) -> Result<Answer, Refusal>
+    ensures { (f : List ℕ) → Called (own process.0 (call class registers.r0 registers.r1 registers.r2 registers.r3)) (lent table.old memory.old f) (given_of result) (lent table.new memory.new f) }
 {
     layer::call(table, memory, process, class, registers)
 }
@@ -45,8 +45,8 @@ pub fn event(
     argument0: u32,
     argument1: u32,
     argument2: u32,
-) -> Answer
-    ensures { (m f : List ℕ) → Called (own process.0 (event driver.0 slot argument0 argument1 argument2)) (lent table.old m f) (answer_of result) (lent table.new m f) }
+) -> Result<Answer, Refusal>
+    ensures { (m f : List ℕ) → Called (own process.0 (event driver.0 slot argument0 argument1 argument2)) (lent table.old m f) (given_of result) (lent table.new m f) }
 {
     layer::event(
         table, process, driver, slot, argument0, argument1, argument2,
@@ -54,8 +54,8 @@ pub fn event(
 }
 
 // A process that waits is asked again.
-pub fn resume(table: &mut [u32], process: Process) -> Answer
-    ensures { (m f : List ℕ) → Called (own process.0 resume) (lent table.old m f) (answer_of result) (lent table.new m f) }
+pub fn resume(table: &mut [u32], process: Process) -> Result<Answer, Refusal>
+    ensures { (m f : List ℕ) → Called (own process.0 resume) (lent table.old m f) (given_of result) (lent table.new m f) }
 {
     layer::resume(table, process)
 }
@@ -69,13 +69,14 @@ pub fn deposit(
     slot: u32,
     offset: u32,
     bytes: &[u8],
-) -> Answer
-    ensures { (f : List ℕ) → Called (own process.0 (deposit driver.0 slot offset bytes.now)) (lent table.now memory.old f) (answer_of result) (lent table.now memory.new f) }
+) -> Result<Answer, Refusal>
+    ensures { (f : List ℕ) → Called (own process.0 (deposit driver.0 slot offset bytes.now)) (lent table.now memory.old f) (given_of result) (lent table.now memory.new f) }
 {
     layer::deposit(table, memory, process, driver, slot, offset, bytes)
 }
 
-// Bytes of a process's read-only buffer, from an offset in it on, in the image itself; the number goes to the caller's word.
+// Bytes of a process's read-only buffer, from an offset in it on, in the image itself; the number goes to the caller's word, since document 01's fetch has
+// a part whether it is refused or not (`Hands`).
 pub fn fetch<'a>(
     table: &[u32],
     memory: &'a [u8],
@@ -93,7 +94,7 @@ pub fn fetch<'a>(
     layer::fetch(table, memory, flash, process, driver, slot, offset, length)
 }
 
-// Where those bytes lie.
+// Where those bytes lie; the number as above (`Locates`).
 pub fn fetch_place(
     table: &[u32],
     memory: &[u8],
@@ -121,15 +122,15 @@ pub fn fetch_answer(
     slot: u32,
     offset: u32,
     length: u32,
-) -> Fetched
-    ensures { Called (own process.0 (fetch driver.0 slot offset length)) (lent table.now memory.now flash.now) (fetched result.number (part_at result.place memory.now flash.now)) (lent table.now memory.now flash.now) }
+) -> Result<Place, Refusal>
+    ensures { Called (own process.0 (fetch driver.0 slot offset length)) (lent table.now memory.now flash.now) (fetched (refusal_of result) (part_at (handed result) memory.now flash.now)) (lent table.now memory.now flash.now) }
 {
     layer::fetch_answer(table, memory, flash, process, driver, slot, offset, length)
 }
 
 // A shared driver's value: a signed peak.
-pub fn latch(table: &mut [u32], driver: Driver, peak: i32) -> Answer
-    ensures { (m f : List ℕ) → Called (latch driver.0 (word_of peak)) (lent table.old m f) (answer_of result) (lent table.new m f) }
+pub fn latch(table: &mut [u32], driver: Driver, peak: i32) -> Result<Answer, Refusal>
+    ensures { (m f : List ℕ) → Called (latch driver.0 (word_of peak)) (lent table.old m f) (given_of result) (lent table.new m f) }
 {
     layer::latch(table, driver, peak)
 }

@@ -1,4 +1,5 @@
 // What a C or Rust host calls: the layer's steps on numbers and slices, where a held buffer lies, its run over a trace, and its sizes. Each takes any
+// They give a `bool`, and take each thing by itself, for C. That there is room for the words comes first in each: nothing may be done where there is none.
 // numbers and slices; a step says what it did in six words of a slice that the host lends, and the run in three.
 #![tactic(auto)]
 
@@ -36,10 +37,7 @@ pub fn mk_size(which: u32) -> u64
         Image::MEMORY as u64,
         Image::FLASH as u64,
     ];
-    if which >= 9 {
-        return 0;
-    }
-    sizes[which as usize]
+    sizes.get(which as usize).copied().unwrap_or(0)
 }
 
 // Whether a lent table is well formed: any words, of any length.
@@ -53,11 +51,11 @@ pub fn mk_table_well_formed(table: &[u32]) -> bool
 pub fn mk_start(table: &mut [u32], board: &[u32], out: &mut [u32]) -> bool
     ensures { WritesAlone (start board.now) table.old out.old result table.new out.new }
 {
-    if out.len() < answers::WORDS {
+    let Some(words) = out.first_chunk_mut() else {
         return false;
-    }
+    };
     let started = layer::start(table, board);
-    answers::tell(out, started);
+    *words = answers::words_of(started);
     true
 }
 
@@ -75,12 +73,12 @@ pub fn mk_call(
 ) -> bool
     ensures { Writes (table_step (own process (call class r0 r1 r2 r3))) table.old memory.old out.old result table.new memory.new out.new }
 {
-    if out.len() < answers::WORDS {
+    let Some(words) = out.first_chunk_mut() else {
         return false;
-    }
+    };
     let registers = Registers { r0, r1, r2, r3 };
     let called = layer::call(table, memory, Process(process), class, registers);
-    answers::tell(out, called);
+    *words = answers::words_of(called);
     true
 }
 
@@ -97,9 +95,9 @@ pub fn mk_event(
 ) -> bool
     ensures { WritesAlone (table_step (own process (event driver slot argument0 argument1 argument2))) table.old out.old result table.new out.new }
 {
-    if out.len() < answers::WORDS {
+    let Some(words) = out.first_chunk_mut() else {
         return false;
-    }
+    };
     let queued = layer::event(
         table,
         Process(process),
@@ -109,7 +107,7 @@ pub fn mk_event(
         argument1,
         argument2,
     );
-    answers::tell(out, queued);
+    *words = answers::words_of(queued);
     true
 }
 
@@ -117,11 +115,11 @@ pub fn mk_event(
 pub fn mk_resume(table: &mut [u32], process: u32, out: &mut [u32]) -> bool
     ensures { WritesAlone (table_step (own process resume)) table.old out.old result table.new out.new }
 {
-    if out.len() < answers::WORDS {
+    let Some(words) = out.first_chunk_mut() else {
         return false;
-    }
+    };
     let resumed = layer::resume(table, Process(process));
-    answers::tell(out, resumed);
+    *words = answers::words_of(resumed);
     true
 }
 
@@ -138,9 +136,9 @@ pub fn mk_deposit(
 ) -> bool
     ensures { Writes (table_step (own process (deposit driver slot offset bytes.now))) table.now memory.old out.old result table.now memory.new out.new }
 {
-    if out.len() < answers::WORDS {
+    let Some(words) = out.first_chunk_mut() else {
         return false;
-    }
+    };
     let deposited = layer::deposit(
         table,
         memory,
@@ -150,7 +148,7 @@ pub fn mk_deposit(
         offset,
         bytes,
     );
-    answers::tell(out, deposited);
+    *words = answers::words_of(deposited);
     true
 }
 
@@ -168,9 +166,9 @@ pub fn mk_fetch(
 ) -> bool
     ensures { WritesOnly (table_step (own process (fetch driver slot offset length))) table.now memory.now flash.now out.old result out.new }
 {
-    if out.len() < answers::WORDS {
+    let Some(words) = out.first_chunk_mut() else {
         return false;
-    }
+    };
     let fetched = layer::fetch_answer(
         table,
         memory,
@@ -181,7 +179,7 @@ pub fn mk_fetch(
         offset,
         length,
     );
-    answers::tell_fetched(out, fetched.number, fetched.place);
+    *words = answers::words_fetched(fetched);
     true
 }
 
@@ -189,11 +187,11 @@ pub fn mk_fetch(
 pub fn mk_latch(table: &mut [u32], driver: u32, peak: i32, out: &mut [u32]) -> bool
     ensures { WritesAlone (table_step (latch driver (word_of peak))) table.old out.old result table.new out.new }
 {
-    if out.len() < answers::WORDS {
+    let Some(words) = out.first_chunk_mut() else {
         return false;
-    }
+    };
     let latched = layer::latch(table, Driver(driver), peak);
-    answers::tell(out, latched);
+    *words = answers::words_of(latched);
     true
 }
 
@@ -208,12 +206,12 @@ pub fn mk_area(
 ) -> bool
     ensures { answered (located_words (locate (lent_by class) process driver slot table.now)) out.old ≡ (result, out.new) }
 {
-    if out.len() < answers::WORDS {
+    let Some(words) = out.first_chunk_mut() else {
         return false;
-    }
+    };
     let kind = answers::lent_by(class);
     let located = layer::area(table, Process(process), kind, Driver(driver), slot);
-    answers::tell_located(out, located);
+    *words = answers::words_located(located);
     true
 }
 
@@ -229,10 +227,10 @@ pub fn mk_replay(
 ) -> bool
     ensures { Runs trace.now (lent table.old memory.old flash.now) at lines.old out.old result (lent table.new memory.new flash.now) lines.new out.new }
 {
-    if out.len() < progress::WORDS {
+    let Some(words) = out.first_chunk_mut() else {
         return false;
-    }
+    };
     let played = layer::replay(trace, at, table, memory, flash, lines);
-    progress::tell(out, played);
+    *words = progress::words_of(played);
     true
 }

@@ -10,64 +10,31 @@
 
 use std::io;
 use table::Table;
-use types::{Answer, Driver, Image, Process, Registers};
-
-fn print(output: &impl Print, text: &str) -> io::Result<()> {
-    output.print(text)
-}
-
-fn print_number(output: &impl Print, n: u64) -> io::Result<()> {
-    print!(output; " {n}")
-}
-
-fn print_byte(output: &impl Print, byte: u8) -> io::Result<()> {
-    print_number(output, byte as u64)
-}
+use types::{Answer, Driver, Image, Process, Refusal, Registers};
 
 // An answer, as a line of document 01.
-fn print_answer(output: &impl Print, answer: Answer) -> io::Result<()> {
+fn print_answer(output: &impl Print, answer: Result<Answer, Refusal>) -> io::Result<()> {
     match answer {
-        Answer::Refused(n) => {
-            print(output, "X")?;
-            print_number(output, n as u64)?;
-        }
-        Answer::Registers(r0, r1, r2, r3) => {
-            print(output, "A")?;
-            print_number(output, r0 as u64)?;
-            print_number(output, r1 as u64)?;
-            print_number(output, r2 as u64)?;
-            print_number(output, r3 as u64)?;
-        }
-        Answer::Deposited => print(output, "D")?,
-        Answer::Started => print(output, "started")?,
-        _ => print(output, "other")?,
+        Ok(Answer::Registers(r0, r1, r2, r3)) => println!(output; "A {r0} {r1} {r2} {r3}"),
+        Ok(Answer::Deposited) => println!(output; "D"),
+        Ok(Answer::Started) => println!(output; "started"),
+        Ok(_) => println!(output; "other"),
+        Err(refusal) => println!(output; "X {}", u32::from(refusal)),
     }
-    print(output, "\n")
 }
 
 // The bytes of a fetch, as a line of document 01.
 fn print_part(output: &impl Print, bytes: &[u8]) -> io::Result<()> {
-    print(output, "F")?;
-    print_number(output, bytes.len() as u64)?;
-    let mut i = 0;
-    while i < bytes.len() {
-        print_byte(output, bytes[i])?;
-        i += 1;
+    print!(output; "F {}", bytes.len())?;
+    for byte in bytes {
+        print!(output; " {byte}")?;
     }
-    print(output, "\n")
+    println!(output; "")
 }
 
 // How many of the bytes are not zero.
-fn written(bytes: &[u8]) -> u64 {
-    let mut n = 0u64;
-    let mut i = 0;
-    while i < bytes.len() {
-        if bytes[i] != 0 {
-            n = n.wrapping_add(1);
-        }
-        i += 1;
-    }
-    n
+fn written(bytes: &[u8]) -> usize {
+    bytes.iter().filter(|byte| **byte != 0).count()
 }
 
 // An allow of slot 0 of driver 1: class 3 is read-write, class 4 read-only.
@@ -107,12 +74,12 @@ fn deposit(
     )
 }
 
-// A fetch of four bytes of its read-only buffer, which are read where they lie.
-fn fetch<'a>(
+// A fetch of four bytes of its read-only buffer, which are read where they lie; the bridge tells its number in a word, 0 where it is accepted.
+fn fetch(
     output: &impl Print,
     table: &[u32],
-    memory: &'a [u8],
-    flash: &'a [u8],
+    memory: &[u8],
+    flash: &[u8],
     process: Process,
     offset: u32,
 ) -> io::Result<()> {
@@ -131,7 +98,7 @@ fn fetch<'a>(
     if number == 0 {
         print_part(output, part)
     } else {
-        print_answer(output, Answer::Refused(number))
+        println!(output; "X {number}")
     }
 }
 
@@ -156,15 +123,14 @@ fn locate(
         4,
         &mut number,
     );
-    let image = part.image;
-    match image {
-        Image::Memory => print(output, "in the memory image from byte")?,
-        Image::Flash => print(output, "in the flash image from byte")?,
-    }
-    print_number(output, part.place as u64)?;
-    print(output, ", with number")?;
-    print_number(output, number as u64)?;
-    print(output, "\n")
+    let image = match part.image {
+        Image::Memory => "memory",
+        Image::Flash => "flash",
+    };
+    println!(output;
+        "in the {image} image from byte {}, with number {number}",
+        part.place
+    )
 }
 
 fn main(rt: HostRuntime) -> io::Result<()> {
@@ -205,9 +171,10 @@ fn main(rt: HostRuntime) -> io::Result<()> {
 
     print_answer(&output, bridge::start(&mut table, &board))?;
 
-    print(&output, "a sum in 32 bits ends at")?;
-    print_number(&output, 0xFFFF_FFFFu32.wrapping_add(2) as u64)?;
-    print(&output, "\n")?;
+    println!(&output;
+        "a sum in 32 bits ends at {}",
+        0xFFFF_FFFFu32.wrapping_add(2)
+    )?;
 
     // Process 0 lends the wrapping buffer; a driver tries to fill it.
     allow(
@@ -236,11 +203,9 @@ fn main(rt: HostRuntime) -> io::Result<()> {
 
     let inside = written(&memory[0x210C..0x2110]);
     let all = written(&memory);
-    print(&output, "bytes written in the buffer's last four")?;
-    print_number(&output, inside)?;
-    print(&output, ", in the whole image")?;
-    print_number(&output, all)?;
-    print(&output, "\n")?;
+    println!(&output;
+        "bytes written in the buffer's last four {inside}, in the whole image {all}"
+    )?;
 
     // Process 1 lends the same 16 bytes read-only; a driver fetches the last four, which stand at 0x2000210C. Process 0 has lent nothing.
     allow(

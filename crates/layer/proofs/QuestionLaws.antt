@@ -3,20 +3,27 @@ use Prim.Native.Nat.{ℕ, ◌≤◌, ◌<◌}
 use mathlib.Core.Path.{◌≡◌, refl, sym, ap, ap₂, ◌∙◌}
 use mathlib.Core.Bool.{Bool, true, false, not}
 use mathlib.Core.List.{List, [], ◌∷◌}
+use mathlib.Core.Logic.{◌⊎◌, inl, inr}
 use native.Mathlib.Omega.{arith}
 use lib.ListN.{get_or}
-use borrow.Author.Tests.{eq-eqb, ne_eqb, lt-ltb, le-ltb}
+use borrow.Author.Tests.{ne_eqb, lt-ltb, le-ltb}
 use Rattle.definition.specs.Tests.{provided◌then◌else◌, Row, ◌when◌, first_of}
 use Rattle.definition.specs.Board.{Kind, subscribe, read_write, read_only, areas_at, place_of, installed, has_slot}
 use Rattle.definition.specs.State.{Pair, held}
 use Rattle.definition.specs.Area.{Area, area_of}
 use Rattle.definition.specs.World.{process_at}
-use Rattle.definition.specs.Image.{drivers_from, state_of, well_formed, board_at}
+use Rattle.definition.specs.Image.{state_of, well_formed}
 use Rattle.definition.specs.Located.{refused, lies, has_buffer, question_rows, located, locate}
-use Rattle.laws.specs.Reads.{processes_so, place_so}
-use Rattle.types.specs.Meaning.{kind_of}
+use Rattle.laws.specs.Reads.{processes_so}
+use Rattle.std.specs.Prelude.{Result, IsErrAnd}
+use Rattle.types.specs.Meaning.{kind_of, number_of}
 use Rattle.types.specs.declared.Kind as Code
+use Rattle.types.specs.declared.Kind.TheVariants as says
+use Rattle.types.specs.declared.Refusal.{Refusal}
 use Rattle.layer.specs.Steps.{named_refusal}
+use Rattle.layer.specs.declared.Buffer.{Buffer}
+use Rattle.layer.specs.Asking.{located_of}
+use Rattle.layer.proofs.RefusalLaws.{some_number, passed}
 
 -- ---- rows 7 and 8 after row 3; a subscribe slot holds no buffer
 
@@ -31,7 +38,7 @@ module _ (t : List ℕ) (p k j : ℕ) where
   unfolding first_of provided◌then◌else◌
   no_process_lem kind h = rw (processes_so t, le-ltb p (get_or t 0 0) h)
 
-  module _ (known : p < get_or t 0 0) (n : ℕ) where
+  module _ (known : p < get_or t 0 0) where
     last_rows : Kind → List Row
     last_rows kind = 7 when not (installed (state_of t).board k) ∷ 8 when not (has_buffer kind (state_of t).board k j) ∷ []
 
@@ -39,20 +46,20 @@ module _ (t : List ℕ) (p k j : ℕ) where
     unfolding first_of provided◌then◌else◌ last_rows
     past_process kind = rw (processes_so t, lt-ltb p (get_or t 0 0) known)
 
-    pub named_refused : (kind : Kind) → n ≡ named_refusal kind (state_of t) k j → (n ≡ 0 → ⊥) → n ≡ first_of (question_rows kind (state_of t).board p k j)
+    pub named_refused : (kind : Kind) (e : Refusal) → number_of e ≡ named_refusal kind (state_of t) k j → number_of e ≡ first_of (question_rows kind (state_of t).board p k j)
     unfolding first_of provided◌then◌else◌ last_rows has_buffer
-    named_refused kind e h = go kind (installed (state_of t).board k) (has_slot kind (state_of t).board k j) refl refl e ∙ sym (past_process kind)
+    named_refused kind e h = go kind (installed (state_of t).board k) (has_slot kind (state_of t).board k j) refl refl h ∙ sym (past_process kind)
       where
-        go : (kind : Kind) (i s : Bool) → installed (state_of t).board k ≡ i → has_slot kind (state_of t).board k j ≡ s → n ≡ first_of (7 when not i ∷ 8 when not s ∷ []) → n ≡ first_of (last_rows kind)
-        go kind false s q r e = rw q e
-        go subscribe true false q r e = rw q e
-        go read_write true false q r e = rw (q, r) e
-        go read_only true false q r e = rw (q, r) e
-        go kind true true q r e = absurd (h e)
+        go : (kind : Kind) (i s : Bool) → installed (state_of t).board k ≡ i → has_slot kind (state_of t).board k j ≡ s → number_of e ≡ first_of (7 when not i ∷ 8 when not s ∷ []) → number_of e ≡ first_of (last_rows kind)
+        go kind false s q r h = rw q h
+        go subscribe true false q r h = rw q h
+        go read_write true false q r h = rw (q, r) h
+        go read_only true false q r h = rw (q, r) h
+        go kind true true q r h = absurd (some_number e h)
 
-    named_there : (kind : Kind) → n ≡ named_refusal kind (state_of t) k j → n ≡ 0 → left_for kind ≡ first_of (question_rows kind (state_of t).board p k j)
+    named_there : (kind : Kind) → 0 ≡ named_refusal kind (state_of t) k j → left_for kind ≡ first_of (question_rows kind (state_of t).board p k j)
     unfolding first_of provided◌then◌else◌ last_rows has_buffer
-    named_there kind e z = go kind (installed (state_of t).board k) (has_slot kind (state_of t).board k j) refl refl (sym z ∙ e) ∙ sym (past_process kind)
+    named_there kind z = go kind (installed (state_of t).board k) (has_slot kind (state_of t).board k j) refl refl z ∙ sym (past_process kind)
       where
         go : (kind : Kind) (i s : Bool) → installed (state_of t).board k ≡ i → has_slot kind (state_of t).board k j ≡ s → 0 ≡ first_of (7 when not i ∷ 8 when not s ∷ []) → left_for kind ≡ first_of (last_rows kind)
         go kind false s q r e = absurd (omega arith)
@@ -61,21 +68,27 @@ module _ (t : List ℕ) (p k j : ℕ) where
         go read_write true true q r e = rw (q, r)
         go read_only true true q r e = rw (q, r)
 
-    pub left_for_lem : (kind found : Code.Kind) → kind ≡ found → n ≡ named_refusal (kind_of kind) (state_of t) k j → n ≡ 0 → left_for (kind_of found) ≡ first_of (question_rows (kind_of kind) (state_of t).board p k j)
-    left_for_lem kind found e rows z = ap (λ y. left_for (kind_of y)) (sym e) ∙ named_there (kind_of kind) rows z
+    pub holds_upcall : {kind : Code.Kind} → kind ≡ says.Subscribe → 0 ≡ named_refusal (kind_of kind) (state_of t) k j → 8 ≡ first_of (question_rows (kind_of kind) (state_of t).board p k j)
+    holds_upcall {kind} e z = ap (λ y. left_for (kind_of y)) (sym e) ∙ named_there (kind_of kind) z
 
--- ---- a host that asks, where n is the number that the code found
+    pub holds_buffer : {kind : Code.Kind} → (kind ≡ says.ReadWrite) ⊎ (kind ≡ says.ReadOnly) → 0 ≡ named_refusal (kind_of kind) (state_of t) k j → 0 ≡ first_of (question_rows (kind_of kind) (state_of t).board p k j)
+    holds_buffer {kind} (inl e) z = ap (λ y. left_for (kind_of y)) (sym e) ∙ named_there (kind_of kind) z
+    holds_buffer {kind} (inr e) z = ap (λ y. left_for (kind_of y)) (sym e) ∙ named_there (kind_of kind) z
 
-module _ (t : List ℕ) (kind : Kind) (p driver j k n : ℕ) (at : k ≡ place_of (board_at t drivers_from).drivers driver) (rows : n ≡ first_of (question_rows kind (state_of t).board p k j)) where
-  pub asked_refused : (n ≡ 0 → ⊥) → refused n ≡ located kind p driver j (state_of t)
+-- ---- a host that asks
+
+module _ (t : List ℕ) (kind : Kind) (p driver j : ℕ) where
+  abbrev rows : ℕ
+  rows = first_of (question_rows kind (state_of t).board p (place_of (state_of t).board.drivers driver) j)
+
+  pub asked_refused : (r : Result Buffer Refusal) (e : Refusal) → IsErrAnd r (λ y. y ≡ e) → number_of e ≡ rows → located_of r ≡ located kind p driver j (state_of t)
   unfolding located provided◌then◌else◌
-  asked_refused h = rw (sym (at ∙ place_so t driver), sym rows, ne_eqb n 0 h)
+  asked_refused r e same h = rw (passed r e same, sym h, ne_eqb (number_of e) 0 (some_number e))
 
-  pub asked_told : n ≡ 0 → (y : Pair) (area : Area) → y ≡ held kind (process_at (state_of t) p) k j → area ≡ area_of (areas_at (state_of t).board p) (process_at (state_of t) p).break y
+  pub asked_told : 0 ≡ rows → (y : Pair) (area : Area) → y ≡ held kind (process_at (state_of t) p) (place_of (state_of t).board.drivers driver) j → area ≡ area_of (areas_at (state_of t).board p) (process_at (state_of t) p).break y
       → lies area y ≡ located kind p driver j (state_of t)
   unfolding located provided◌then◌else◌
-  asked_told z y area reads here =
-      rw (sym (at ∙ place_so t driver), sym rows, eq-eqb n 0 z) (ap₂ lies (here ∙ ap (area_of (areas_at (state_of t).board p) (process_at (state_of t) p).break) reads) reads)
+  asked_told z y area reads here = rw (sym z) (ap₂ lies (here ∙ ap (area_of (areas_at (state_of t).board p) (process_at (state_of t) p).break) reads) reads)
 
 -- row 2 stands before it
 module _ (t : List ℕ) (kind : Kind) (p driver j : ℕ) where

@@ -1,9 +1,10 @@
 -- What a host is told that asks where a held buffer lies.
+use Rattle.std.specs.Prelude.{Result, Ok, Err}
 use Rattle.definition.specs.Located.{Located, refused, lies}
-use Rattle.types.specs.Meaning.{pair_of, area_named}
-use Rattle.layer.specs.declared.Located.{Located as Told}
-use Rattle.layer.specs.declared.Located.TheVariants as says
+use Rattle.types.specs.declared.Refusal.{Refusal}
+use Rattle.types.specs.Meaning.{pair_of, area_named, number_of}
+use Rattle.layer.specs.declared.Buffer.{Buffer}
 
-abbrev pub located_of : Told → Located
-located_of (says.Refused n) = refused n
-located_of (says.Lies area x) = lies (area_named area) (pair_of x)
+abbrev pub located_of : Result Buffer Refusal → Located
+located_of (Ok buffer) = lies (area_named buffer.area) (pair_of buffer.pair)
+located_of (Err refusal) = refused (number_of refusal)

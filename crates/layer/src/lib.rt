@@ -1,4 +1,5 @@
 // The layer: its public functions take any table and any images, and answer as document 01 says. What works on a checked table is private.
+// Parameters stand one by one, as in the exports of `host_c` and in the steps that the promises name.
 #![tactic(auto)]
 
 ghost use Rattle.std.specs.Prelude.{◌≡◌};
@@ -8,7 +9,7 @@ ghost use Rattle.definition.specs.World.{own, latch};
 ghost use Rattle.definition.specs.Table.{table_step};
 ghost use Rattle.definition.specs.Located.{locate};
 ghost use Rattle.definition.specs.Signed.{word_of};
-ghost use Rattle.types.specs.Meaning.{kind_of, answer_of};
+ghost use Rattle.types.specs.Meaning.{kind_of, given_of};
 ghost use Rattle.layer.specs.Steps.{lent, Makes, MakesAlone, Starts};
 ghost use Rattle.layer.specs.Fetching.{part_of, IsPart, Lies, Finds};
 ghost use Rattle.layer.specs.Asking.{located_of};
@@ -22,9 +23,10 @@ mod replays;
 mod steps;
 mod work;
 
+use replays::Lent;
 use table::starts;
 use table_check::checks;
-use types::{Answer, Area, Driver, Image, Kind, Pair, Process, Registers};
+use types::{Answer, Area, Driver, Image, Kind, Pair, Process, Refusal, Registers};
 
 // Where a part of an image lies: which image, the place of its first byte there, and how many bytes it has.
 #[derive(Clone, Copy)]
@@ -34,29 +36,15 @@ pub struct Place {
     pub length: u32,
 }
 
-// What a fetch is answered with, in numbers: 0 where it is accepted, else the number of its refusal; and where its part lies.
-#[derive(Clone, Copy)]
-pub struct Fetched {
-    pub number: u32,
-    pub place: Place,
-}
-
 // A held buffer: where it lies, and its address and size.
 #[derive(Clone, Copy)]
-struct Buffer {
-    area: Area,
-    pair: Pair,
-}
-
-// Where a held buffer lies, with its address and size; or the number that the question is refused with.
-#[derive(Clone, Copy)]
-pub enum Located {
-    Refused(u32),
-    Lies(Area, Pair),
+pub struct Buffer {
+    pub area: Area,
+    pub pair: Pair,
 }
 
 // How far a run over a trace has come: it has ended, with so many bytes written; or it has paused for want of room before what stands at a
-// place of the trace, with so many bytes written, all of them whole lines.
+// place of the trace, with so many bytes written, all of them whole lines. Both cases carry what was written, so it is no Option or Result.
 #[derive(Clone, Copy)]
 pub enum Progress {
     Ended(usize),
@@ -64,8 +52,8 @@ pub enum Progress {
 }
 
 // A table of another length is refused with 2, then words that are no good board with 13; else the table is that of the fresh state.
-pub fn start(table: &mut [u32], board: &[u32]) -> Answer
-    ensures { Starts board.now table.old (answer_of result) table.new }
+pub fn start(table: &mut [u32], board: &[u32]) -> Result<Answer, Refusal>
+    ensures { Starts board.now table.old (given_of result) table.new }
 {
     starts::start(table, board)
 }
@@ -77,8 +65,8 @@ pub fn call(
     process: Process,
     class: u8,
     registers: Registers,
-) -> Answer
-    ensures { Makes (own process.0 (call class registers.r0 registers.r1 registers.r2 registers.r3)) table.old memory.old (answer_of result) table.new memory.new }
+) -> Result<Answer, Refusal>
+    ensures { Makes (own process.0 (call class registers.r0 registers.r1 registers.r2 registers.r3)) table.old memory.old (given_of result) table.new memory.new }
 {
     let formed = checks::well_formed(table);
     steps::call(table, memory, formed, process, class, registers)
@@ -93,8 +81,8 @@ pub fn event(
     argument0: u32,
     argument1: u32,
     argument2: u32,
-) -> Answer
-    ensures { MakesAlone (own process.0 (event driver.0 slot argument0 argument1 argument2)) table.old (answer_of result) table.new }
+) -> Result<Answer, Refusal>
+    ensures { MakesAlone (own process.0 (event driver.0 slot argument0 argument1 argument2)) table.old (given_of result) table.new }
 {
     let formed = checks::well_formed(table);
     steps::event(
@@ -103,8 +91,8 @@ pub fn event(
 }
 
 // A process that waits is asked again.
-pub fn resume(table: &mut [u32], process: Process) -> Answer
-    ensures { MakesAlone (own process.0 resume) table.old (answer_of result) table.new }
+pub fn resume(table: &mut [u32], process: Process) -> Result<Answer, Refusal>
+    ensures { MakesAlone (own process.0 resume) table.old (given_of result) table.new }
 {
     let formed = checks::well_formed(table);
     steps::resume(table, formed, process)
@@ -119,14 +107,14 @@ pub fn deposit(
     slot: u32,
     offset: u32,
     bytes: &[u8],
-) -> Answer
-    ensures { Makes (own process.0 (deposit driver.0 slot offset bytes.now)) table.now memory.old (answer_of result) table.now memory.new }
+) -> Result<Answer, Refusal>
+    ensures { Makes (own process.0 (deposit driver.0 slot offset bytes.now)) table.now memory.old (given_of result) table.now memory.new }
 {
     let formed = checks::well_formed(table);
     steps::deposit(table, memory, formed, process, driver, slot, offset, bytes)
 }
 
-// The answer to a fetch, in numbers, for a host that has both images.
+// The answer to a fetch, for a host that has both images: its refusal, or where its part lies.
 pub fn fetch_answer(
     table: &[u32],
     memory: &[u8],
@@ -136,7 +124,7 @@ pub fn fetch_answer(
     slot: u32,
     offset: u32,
     length: u32,
-) -> Fetched
+) -> Result<Place, Refusal>
     ensures { Finds (table_step (own process.0 (fetch driver.0 slot offset length)) (lent table.now memory.now flash.now)).answer memory.now flash.now result }
 {
     let formed = checks::well_formed(table);
@@ -145,7 +133,7 @@ pub fn fetch_answer(
     )
 }
 
-// The number of a fetch: 0 where it is accepted.
+// The number of a fetch, 0 where it is accepted: document 01 asks for it separately, and it is told whatever the fetch is.
 pub fn fetch_number(
     table: &[u32],
     memory: &[u8],
@@ -158,8 +146,10 @@ pub fn fetch_number(
 ) -> u32
     ensures { result ≡ number_of (table_step (own process.0 (fetch driver.0 slot offset length)) (lent table.now memory.now flash.now)).answer }
 {
-    let answer = fetch_answer(table, memory, flash, process, driver, slot, offset, length);
-    answer.number
+    match fetch_answer(table, memory, flash, process, driver, slot, offset, length) {
+        Ok(_) => 0,
+        Err(refusal) => refusal.into(),
+    }
 }
 
 // Bytes of a process's read-only buffer, from an offset in it on: a part of the image that the buffer lies in.
@@ -176,8 +166,7 @@ pub fn fetch<'a>(
     ensures { IsPart (part_of (table_step (own process.0 (fetch driver.0 slot offset length)) (lent table.now memory.now flash.now)).answer) memory.entry flash.entry result }
 {
     let fetched = fetch_answer(table, memory, flash, process, driver, slot, offset, length);
-    let place = fetched.place;
-    fetches::part(memory, flash, place)
+    fetches::part(memory, flash, fetches::handed(fetched))
 }
 
 // Where the part that a fetch hands back lies, for a host that is told of it in numbers.
@@ -194,23 +183,29 @@ pub fn fetch_place(
     ensures { Lies (part_of (table_step (own process.0 (fetch driver.0 slot offset length)) (lent table.now memory.now flash.now)).answer) result }
 {
     let told = fetch_answer(table, memory, flash, process, driver, slot, offset, length);
-    told.place
+    fetches::handed(told)
 }
 
 // A shared driver's value: a signed peak.
-pub fn latch(table: &mut [u32], driver: Driver, peak: i32) -> Answer
-    ensures { MakesAlone (latch driver.0 (word_of peak)) table.old (answer_of result) table.new }
+pub fn latch(table: &mut [u32], driver: Driver, peak: i32) -> Result<Answer, Refusal>
+    ensures { MakesAlone (latch driver.0 (word_of peak)) table.old (given_of result) table.new }
 {
     let formed = checks::well_formed(table);
     steps::latch(table, formed, driver, peak)
 }
 
 // Where the buffer lies that a process holds in a slot. It is no step: any table is only read.
-pub fn area(table: &[u32], process: Process, kind: Kind, driver: Driver, slot: u32) -> Located
+pub fn area(
+    table: &[u32],
+    process: Process,
+    kind: Kind,
+    driver: Driver,
+    slot: u32,
+) -> Result<Buffer, Refusal>
     ensures { located_of result ≡ locate (kind_of kind) process.0 driver.0 slot table.now }
 {
     if !checks::well_formed(table) {
-        return Located::Refused(2);
+        return Err(Refusal::NoTable);
     }
     buffers::locate(table, process, kind, driver, slot)
 }
@@ -231,5 +226,11 @@ pub fn replay(
         return replays::begin(trace, table, memory, flash, out);
     }
     let formed = checks::well_formed(table);
-    replays::records(trace, at, table, memory, flash, formed, out, 0)
+    let mut lent = Lent {
+        table,
+        memory,
+        flash,
+        formed,
+    };
+    lent.records(trace, at, out, 0)
 }

@@ -1,25 +1,25 @@
 // The run over a trace: each record's step on what the last one left, and its line, while there is room for one.
 // The table is not looked at again: whether it is well formed is known once, and no step changes that.
-ghost use Rattle.std.specs.Prelude.{◌≡◌, ◌+◌, ◌-◌, ◌≤◌, ◌<◌, length, take, drop};
+ghost use Rattle.std.specs.Prelude.{◌≡◌, ◌+◌, ◌≤◌, ◌<◌, [], length, get_or, take};
 ghost use Rattle.definition.specs.Lines.{short_line};
-ghost use Rattle.definition.specs.Decide.{call, fetch};
-ghost use Rattle.definition.specs.World.{own};
 ghost use Rattle.definition.specs.Image.{well_formed};
-ghost use Rattle.definition.specs.Trace.{found, max_class, last_kind};
-ghost use Rattle.definition.specs.Answer.{number_of};
+ghost use Rattle.definition.specs.Table.{table_step};
+ghost use Rattle.definition.specs.Trace.{found, max_class, step_of};
 ghost use Rattle.definition.specs.Replay.{left, following, play_from, play_board};
-ghost use Rattle.types.specs.Meaning.{answer_of};
-ghost use Rattle.layer.specs.Steps.{lent, Makes};
+ghost use Rattle.types.specs.Meaning.{given_of};
+ghost use Rattle.trace.specs.Meaning.{told_of};
+ghost use Rattle.layer.specs.Steps.{lent, gave};
 ghost use Rattle.layer.specs.Replaying.{Leaves, Plays, room_at, Turned, Acted, FetchTold, ReadIn, step_by};
 
 use super::{Progress, fetches, steps};
 use calls::signed;
 use lines::Line;
 use trace::reader;
-use trace::records::{Board, Fields, Read, Record, Words, board_at};
-use types::{Answer, Driver, Process, Registers};
+use trace::records::{Board, Record, RecordKind, board_at};
+use types::{Answer, Driver, Process, Refusal, Registers};
 
-// What became of a record: the run goes on at the next one, with its lines' new end; it has ended there; or there is no room for a line.
+// What became of a record: the run goes on at the next one, with its lines' new end; it has ended there; or there is no room for a line. Two of the three
+// carry something, so no Option or Result says it.
 #[derive(Clone, Copy)]
 enum Turn {
     On(usize, usize),
@@ -27,200 +27,170 @@ enum Turn {
     Full,
 }
 
-// Where a line that was put ends; or there is no room for it.
-#[derive(Clone, Copy)]
-enum Room {
-    Used(usize),
-    Short,
+// What a run works on, and whether its table is well formed, which no step changes.
+#[derive(Drop)]
+pub(crate) struct Lent<'a> {
+    pub(crate) table: &'a mut [u32],
+    pub(crate) memory: &'a mut [u8],
+    pub(crate) flash: &'a [u8],
+    pub(crate) formed: bool,
+    ghost known: { formed ≡ well_formed table.now },
 }
 
-// The call of a record.
-fn call(table: &mut [u32], memory: &mut [u8], formed: bool, fields: Fields) -> Answer
-    requires { (formed ≡ well_formed table.old) × (fields.1 ≤ max_class) }
-    ensures { Makes (own fields.0 (call fields.1 fields.2 fields.3 fields.4 fields.5)) table.old memory.old (answer_of result) table.new memory.new }
-{
-    let class = fields.1 as u8;
-    let registers = Registers {
-        r0: fields.2,
-        r1: fields.3,
-        r2: fields.4,
-        r3: fields.5,
-    };
-    steps::call(table, memory, formed, Process(fields.0), class, registers)
-}
+impl<'a> Lent<'a> {
+    ghost use Rattle.layer.specs.Lending.{lent_in, kept};
 
-// The step of a record, of any kind but a fetch.
-fn make(
-    table: &mut [u32],
-    memory: &mut [u8],
-    formed: bool,
-    kind: u32,
-    fields: Fields,
-    bytes: &[u8],
-) -> Answer
-    requires { (formed ≡ well_formed table.old) × (kind ≤ last_kind) × (kind ≡ 4 → ⊥) × (kind ≡ 0 → fields.1 ≤ max_class) }
-    ensures { Makes (step_by kind fields bytes.now) table.old memory.old (answer_of result) table.new memory.new }
-{
-    if kind == Record::CALL {
-        return call(table, memory, formed, fields);
+    // The call of a record.
+    fn call(&mut self, fields: [u32; Record::FIELDS]) -> Result<Answer, Refusal>
+        requires { get_or fields 1 0 ≤ max_class }
+        ensures makes { table_step (step_by RecordKind.Call fields []) (lent_in self.old) ≡ gave (given_of result) (lent_in self.new) }
+        ensures same { kept self.new ≡ kept self.old }
+    {
+        let [process, class, r0, r1, r2, r3] = fields;
+        let registers = Registers { r0, r1, r2, r3 };
+        steps::call(
+            self.table,
+            self.memory,
+            self.formed,
+            Process(process),
+            class as u8,
+            registers,
+        )
     }
-    let process = Process(fields.0);
-    let driver = Driver(fields.1);
-    if kind == Record::EVENT {
-        return steps::event(
-            table, formed, process, driver, fields.2, fields.3, fields.4, fields.5,
+
+    // The deposit of a record. The table goes by a name of its own, so that the check knows that it comes back as it was.
+    fn deposit(&mut self, fields: [u32; Record::FIELDS], bytes: &[u8]) -> Result<Answer, Refusal>
+        ensures makes { table_step (step_by RecordKind.Deposit fields bytes.now) (lent_in self.old) ≡ gave (given_of result) (lent_in self.new) }
+        ensures same { kept self.new ≡ kept self.old }
+    {
+        let [process, driver, slot, offset, _, _] = fields;
+        let table = &mut *self.table;
+        steps::deposit(
+            table,
+            self.memory,
+            self.formed,
+            Process(process),
+            Driver(driver),
+            slot,
+            offset,
+            bytes,
+        )
+    }
+
+    // The line of a fetch, by where it ends. It changes nothing, so that it can be made again where there is no room for its line.
+    fn put_fetch(&self, fields: [u32; Record::FIELDS], out: &mut [u8], used: usize) -> Option<usize>
+        requires { used + short_line ≤ length out.old }
+        ensures { FetchTold (step_by RecordKind.Fetch fields []) (lent_in self.now) used out.old result out.new }
+    {
+        let [process, driver, slot, offset, length, _] = fields;
+        let fetched = steps::fetch(
+            self.table,
+            self.memory,
+            self.flash,
+            self.formed,
+            Process(process),
+            Driver(driver),
+            slot,
+            offset,
+            length,
         );
-    }
-    if kind == Record::RESUME {
-        return steps::resume(table, formed, process);
-    }
-    if kind == Record::DEPOSIT {
-        return steps::deposit(
-            table, memory, formed, process, driver, fields.2, fields.3, bytes,
-        );
-    }
-    let peak = signed::of_word(fields.1);
-    steps::latch(table, formed, Driver(fields.0), peak)
-}
-
-// The line of a fetch. It changes nothing, so that it can be made again where there is no room for its line.
-#[tactic(auto, using(crate::proofs::TurnLaws::told_refused))]
-fn put_fetch<'a>(
-    table: &[u32],
-    memory: &'a [u8],
-    flash: &'a [u8],
-    formed: bool,
-    fields: Fields,
-    out: &mut [u8],
-    used: usize,
-) -> Room
-    requires { (formed ≡ well_formed table.now) × (used + short_line ≤ length out.old) }
-    ensures { FetchTold (own fields.0 (fetch fields.1 fields.2 fields.3 fields.4)) (lent table.now memory.now flash.now) used out.old result out.new }
-{
-    let fetched = steps::fetch(
-        table,
-        memory,
-        flash,
-        formed,
-        Process(fields.0),
-        Driver(fields.1),
-        fields.2,
-        fields.3,
-        fields.4,
-    );
-    let number = fetched.number;
-    if number != 0 {
-        return Room::Used(lines::put_answer(out, used, Answer::Refused(number)));
-    }
-    let place = fetched.place;
-    let part = fetches::part(memory, flash, place);
-    if !lines::part_fits(out.len() - used, part.len()) {
-        return Room::Short;
-    }
-    Room::Used(lines::put_part(out, used, part))
-}
-
-// A record that was read: its bytes go on to a deposit as a part of the trace.
-fn act(
-    trace: &[u8],
-    read: Record,
-    table: &mut [u32],
-    memory: &mut [u8],
-    flash: &[u8],
-    formed: bool,
-    out: &mut [u8],
-    used: usize,
-) -> Turn
-    requires { (formed ≡ well_formed table.old) × (used + short_line ≤ length out.old) × ReadIn trace.now read }
-    ensures { Acted (step_by read.kind read.fields (take (read.next - read.from) (drop read.from trace.now))) (lent table.old memory.old flash.now) read.next used out.old result (lent table.new memory.new flash.now) out.new }
-{
-    let kind = read.kind;
-    let fields = read.fields;
-    let next = read.next;
-    if kind == Record::FETCH {
-        let room = put_fetch(table, memory, flash, formed, fields, out, used);
-        let Room::Used(end) = room else {
-            return Turn::Full;
+        let place = match fetched {
+            Ok(place) => place,
+            Err(refusal) => return Some(lines::put_answer(out, used, Err(refusal))),
         };
-        return Turn::On(next, end);
+        let part = fetches::part(self.memory, self.flash, place);
+        if !lines::part_fits(out.len() - used, part.len()) {
+            return None;
+        }
+        Some(lines::put_part(out, used, part))
     }
-    let from = read.from;
-    let answer = make(table, memory, formed, kind, fields, &trace[from..next]);
-    Turn::On(next, lines::put_answer(out, used, answer))
-}
 
-// The record at a place: every line but a part's fits where there is room for one.
-#[tactic(auto, using(crate::proofs::TurnLaws::turned_full))]
-fn take_turn(
-    trace: &[u8],
-    at: usize,
-    table: &mut [u32],
-    memory: &mut [u8],
-    flash: &[u8],
-    formed: bool,
-    out: &mut [u8],
-    used: usize,
-) -> Turn
-    requires { (formed ≡ well_formed table.old) × (at < length trace.now) × (used ≤ length out.old) }
-    ensures { Turned trace.now (lent table.old memory.old flash.now) at used out.old result (lent table.new memory.new flash.now) out.new }
-{
-    if out.len() - used < Line::ROOM {
-        return Turn::Full;
-    }
-    match reader::next_at(trace, at) {
-        Read::Record(read) => act(trace, read, table, memory, flash, formed, out, used),
-        Read::Broken => Turn::Ended(lines::put_broken(out, used, at)),
-        Read::Cut => Turn::Ended(lines::put_broken(out, used, at)),
-    }
-}
-
-// The records from a place on, after lines that end at `from`.
-pub(crate) fn records(
-    trace: &[u8],
-    at: usize,
-    table: &mut [u32],
-    memory: &mut [u8],
-    flash: &[u8],
-    formed: bool,
-    out: &mut [u8],
-    from: usize,
-) -> Progress
-    requires { (formed ≡ well_formed table.old) × (from ≤ length out.old) }
-    ensures { Leaves (following (take from out.old) (play_from trace.now (lent table.old memory.old flash.now) at (room_at from out.old))) out.old result (lent table.new memory.new flash.now) out.new }
-{
-    let mut i = at;
-    let mut used = from;
-    while i < trace.len() {
-        match take_turn(trace, i, table, memory, flash, formed, out, used) {
-            Turn::On(next, end) => {
-                i = next;
-                used = end;
+    // A record that was read: its bytes go on to a deposit as a part of the trace.
+    fn act(&mut self, trace: &[u8], read: Record, out: &mut [u8], used: usize) -> Turn
+        requires { (used + short_line ≤ length out.old) × ReadIn trace.now read }
+        ensures acted { Acted (step_of (told_of trace.now read)) (lent_in self.old) read.next used out.old result (lent_in self.new) out.new }
+        ensures same { kept self.new ≡ kept self.old }
+    {
+        let next = read.next;
+        let [first, second, third, fourth, fifth, sixth] = read.fields;
+        let given = match read.kind {
+            RecordKind::Call => self.call(read.fields),
+            RecordKind::Event => steps::event(
+                self.table,
+                self.formed,
+                Process(first),
+                Driver(second),
+                third,
+                fourth,
+                fifth,
+                sixth,
+            ),
+            RecordKind::Resume => steps::resume(self.table, self.formed, Process(first)),
+            RecordKind::Deposit => self.deposit(read.fields, &trace[read.from..next]),
+            RecordKind::Fetch => {
+                return match self.put_fetch(read.fields, out, used) {
+                    Some(end) => Turn::On(next, end),
+                    None => Turn::Full,
+                };
             }
-            Turn::Ended(end) => return Progress::Ended(end),
-            Turn::Full => return Progress::Paused(i, used),
+            RecordKind::Latch => {
+                steps::latch(
+                    self.table,
+                    self.formed,
+                    Driver(first),
+                    signed::of_word(second),
+                )
+            }
+        };
+        Turn::On(next, lines::put_answer(out, used, given))
+    }
+
+    // The record at a place: every line but a part's fits where there is room for one.
+    #[tactic(auto, using(crate::proofs::TurnLaws::turned_full))]
+    fn take_turn(&mut self, trace: &[u8], at: usize, out: &mut [u8], used: usize) -> Turn
+        requires { (at < length trace.now) × (used ≤ length out.old) }
+        ensures turned { Turned trace.now (lent_in self.old) at used out.old result (lent_in self.new) out.new }
+        ensures same { kept self.new ≡ kept self.old }
+    {
+        if out.len() - used < Line::ROOM {
+            return Turn::Full;
+        }
+        match reader::next_at(trace, at) {
+            Ok(read) => self.act(trace, read, out, used),
+            Err(_) => Turn::Ended(lines::put_broken(out, used, at)),
         }
     }
-    Progress::Ended(used)
-}
 
-// The number by which an answer refuses, 0 for none.
-fn number_of(answer: Answer) -> u32
-    ensures { result ≡ number_of (answer_of answer) }
-{
-    match answer {
-        Answer::Refused(n) => n,
-        Answer::Registers(_, _, _, _) => 0,
-        Answer::Delivered(_, _, _, _, _) => 0,
-        Answer::Waiting => 0,
-        Answer::Nothing => 0,
-        Answer::Taken => 0,
-        Answer::Deposited => 0,
-        Answer::Latched => 0,
-        Answer::Started => 0,
-        Answer::Exited(_) => 0,
-        Answer::Restarted(_) => 0,
+    // The records from a place on, after lines that end at `from`.
+    pub(crate) fn records(
+        &mut self,
+        trace: &[u8],
+        at: usize,
+        out: &mut [u8],
+        from: usize,
+    ) -> Progress
+        requires { from ≤ length out.old }
+        ensures leaves { Leaves (following (take from out.old) (play_from trace.now (lent_in self.old) at (room_at from out.old))) out.old result (lent_in self.new) out.new }
+        ensures same { kept self.new ≡ kept self.old }
+    {
+        let mut i = at;
+        let mut used = from;
+        // No index is counted: a record says where the next one stands.
+        while i < trace.len() {
+            match self.take_turn(trace, i, out, used) {
+                Turn::On(next, end) => {
+                    i = next;
+                    used = end;
+                }
+                Turn::Ended(end) => return Progress::Ended(end),
+                Turn::Full => return Progress::Paused(i, used),
+            }
+        }
+        Progress::Ended(used)
     }
 }
+
+// What is lent goes by name here: before the start it is not known whether the table is well formed, and so there is no `Lent`.
 
 // The board's words, and the records after them; a board that is not good ends the run. What start has left is not checked again.
 fn start_on(
@@ -235,14 +205,20 @@ fn start_on(
     requires { short_line ≤ length out.old }
     ensures { Leaves (play_board trace.now (lent table.old memory.old flash.now) (left (length out.old)) (found board.now next)) out.old result (lent table.new memory.new flash.now) out.new }
 {
-    let answer = super::start(table, board);
-    let used = lines::put_answer(out, 0, answer);
-    let number = number_of(answer);
-    if number == 13 {
-        return Progress::Ended(used);
-    }
-    let formed = number == 0;
-    records(trace, next, table, memory, flash, formed, out, used)
+    let given = super::start(table, board);
+    let used = lines::put_answer(out, 0, given);
+    let formed = match given {
+        Ok(_) => true,
+        Err(refusal) if refusal == Refusal::NoBoard => return Progress::Ended(used),
+        Err(_) => false,
+    };
+    let mut lent = Lent {
+        table,
+        memory,
+        flash,
+        formed,
+    };
+    lent.records(trace, next, out, used)
 }
 
 // The whole trace, from its board on.
@@ -261,13 +237,16 @@ pub(crate) fn begin(
     }
     let mut board = [0u32; Board::MAX_WORDS];
     match board_at(trace, &mut board) {
-        Words::Read(count, next) => {
-            let n = count as usize;
-            start_on(trace, next, &board[..n], table, memory, flash, out)
-        }
-        Words::Broken => Progress::Ended(lines::put_broken(out, 0, 0)),
-        Words::Cut => Progress::Ended(lines::put_broken(out, 0, 0)),
-        // There is room for the largest board.
-        Words::NoRoom => Progress::Paused(0, 0),
+        Ok((count, next)) => start_on(
+            trace,
+            next,
+            &board[..count as usize],
+            table,
+            memory,
+            flash,
+            out,
+        ),
+        // There is room for the largest board, so that it is broken or cut.
+        Err(_) => Progress::Ended(lines::put_broken(out, 0, 0)),
     }
 }

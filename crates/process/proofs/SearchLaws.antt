@@ -1,43 +1,30 @@
 -- The search for a slot's first upcall in rows of words, and the rows from it on: what is done to them is done to all.
-use Prim.Native.Nat.{ℕ, suc, ◌+◌, ◌-◌, ◌*◌, ◌^◌, ◌≤◌, ◌<◌}
+use Prim.Native.Nat.{ℕ, suc, ◌+◌, ◌-◌, ◌*◌, ◌≤◌, ◌<◌}
 use mathlib.Core.Path.{◌≡◌, refl, sym, ap, ap₂, subst, ◌∙◌}
-use mathlib.Core.Bool.{Bool, true, false, ◌&&◌}
+use mathlib.Core.Bool.{Bool, true, false}
 use mathlib.Core.List.{List, [], ◌∷◌, ◌++◌, append_assoc}
 use native.Mathlib.Nat.{zero-add, add_assoc}
 use native.Mathlib.Omega.{arith}
 use native.Mathlib.Decide.{ℕ_discrete}
 use lib.ListN.{length, take, drop, get_or, set, length-append}
 use lib.Seq.{length-take-le, take-add, drop-drop, get_or-drop}
-use lib.Dec.{eqb}
-use borrow.Author.Tests.{eqb-true, eq-eqb}
 use borrow.Rule.Slice.PartMut.{mid_of, put_mid}
+use Rattle.std.specs.Prelude.{Option, Some, None, IfSome}
 use Rattle.definition.specs.Tests.{provided◌then◌else◌}
 use Rattle.definition.specs.State.{Upcall, no_upcall, with_queue}
 use Rattle.definition.specs.Words.{part, grid}
 use Rattle.definition.specs.Image.{upcall_words, read_upcall, words_in_upcall, queue_from, process_words}
 use Rattle.definition.specs.World.{cancel}
-use Rattle.laws.specs.Facts.{both, and}
 use Rattle.laws.specs.Rows.{tab_length, tab_at, tab_ext, part_part, grid_full, row_fits}
 use Rattle.laws.specs.Codec.{upcall_words_lem}
-use Rattle.words.specs.Loops.{both_ways}
 use Rattle.process.specs.Runs.{Does}
 use Rattle.process.specs.QueueRows.{upcalls_in, Keeps}
 use Rattle.process.specs.FirstMatch.{is_of, first_match, NoneBelow, IsFirst}
 use Rattle.process.specs.MatchLaws.{first_found, first_only}
-use Rattle.process.specs.declared.queue.Match.{Match}
-use Rattle.process.specs.declared.queue.Match.TheVariants.{At, None}
 use Rattle.process.proofs.QueueLaws.{rest_lent, rest_back, lent}
 use Rattle.process.proofs.CancelLaws.{tab_apart, rows, rows_apart, Kept, kept_none, kept_goes, cancel_append, queue_of, cancel_does}
 
 -- ---- one row
-
--- a slot as one number, of which the first part is a word
-pub same_key : (a b c d : ℕ) → a < 2 ^ 32 → c < 2 ^ 32 → eqb (a + b * 2 ^ 32) (c + d * 2 ^ 32) ≡ (eqb a c && eqb b d)
-same_key a b c d h g = both_ways _ _
-    (λ e.
-    let q : a + b * 2 ^ 32 ≡ c + d * 2 ^ 32 = eqb-true _ _ e in
-    and (eq-eqb a c (omega arith)) (eq-eqb b d (omega arith)))
-    (λ e. let (p, q) = both (eqb a c) (eqb b d) e in eq-eqb _ _ (ap₂ (λ (x y : ℕ). x + y * 2 ^ 32) (eqb-true a c p) (eqb-true b d q)))
 
 read_drop : (t : List ℕ) (a b : ℕ) → read_upcall (drop a t) b ≡ read_upcall t (a + b)
 read_drop t a b =
@@ -56,17 +43,15 @@ module _ (f : Upcall → Bool) (t : List ℕ) (n i : ℕ) (h : NoneBelow i f (up
     | no s ↦ h m (omega arith)
   ]
 
-  pub found : (r : Bool) → i < n → r ≡ f (read_upcall t (i * words_in_upcall)) → r ≡ true → At i ≡ first_match f (upcalls_in n t)
-  found r g e q = first_only f (upcalls_in n t) (At i) (omega (arith, upcalls_length n t), ap f (tab_at n _ i no_upcall g) ∙ sym e ∙ q, h)
+  pub found : (r : Bool) → i < n → r ≡ f (read_upcall t (i * words_in_upcall)) → r ≡ true → Some i ≡ first_match f (upcalls_in n t)
+  found r g e q = first_only f (upcalls_in n t) (Some i) (omega (arith, upcalls_length n t), ap f (tab_at n _ i no_upcall g) ∙ sym e ∙ q, h)
 
   pub found_none : n ≤ i → None ≡ first_match f (upcalls_in n t)
   found_none g = first_only f (upcalls_in n t) None (λ m b. h m (omega (arith, upcalls_length n t)))
 
 -- a place that is found is one of the rows
-pub found_below : (f : Upcall → Bool) (n : ℕ) (t : List ℕ) {r : Match} {i : ℕ} → r ≡ first_match f (upcalls_in n t) → r ≡ At i → i < n
-found_below f n t {i = i} e q =
-    let is = first_found f (upcalls_in n t) (At i) (sym q ∙ e) in
-    omega (arith, is.0, upcalls_length n t)
+pub some_within : (n : ℕ) {r : Option ℕ} {i : ℕ} → r ≡ Some i → IfSome r (λ k. k < n) → i < n
+some_within n e h = subst (λ (r : Option ℕ). IfSome r (λ k. k < n)) e h
 
 -- ---- the rows from the i-th on
 
@@ -85,13 +70,13 @@ module _ (t : List ℕ) (n i : ℕ) (b : i ≤ n) where
       ∙ ap (λ (r : List Upcall). upcalls_in i t ++ r) (tab_ext (n - i) _ _ (λ m h. ap (read_upcall t) (omega arith) ∙ sym (read_drop t (i * words_in_upcall) (m * words_in_upcall))))
 
   -- a slot's first upcall is the first of the rows from it on
-  first_there : (f : Upcall → Bool) → At i ≡ first_match f (upcalls_in n t) → first_match f (upcalls_in (n - i) (drop (i * words_in_upcall) t)) ≡ At 0
+  first_there : (f : Upcall → Bool) → Some i ≡ first_match f (upcalls_in n t) → first_match f (upcalls_in (n - i) (drop (i * words_in_upcall) t)) ≡ Some 0
   first_there f e =
-      let is : IsFirst f (upcalls_in n t) (At i) = first_found f (upcalls_in n t) (At i) e in
+      let is : IsFirst f (upcalls_in n t) (Some i) = first_found f (upcalls_in n t) (Some i) e in
       let h : i < n = omega (arith, is.0, upcalls_length n t) in
       let r : get_or (upcalls_in (n - i) (drop (i * words_in_upcall) t)) 0 no_upcall ≡ get_or (upcalls_in n t) i no_upcall =
       tab_at (n - i) _ 0 no_upcall (omega arith) ∙ read_drop t (i * words_in_upcall) (0 * words_in_upcall) ∙ ap (read_upcall t) (omega arith) ∙ sym (tab_at n _ i no_upcall h) in
-      sym (first_only f (upcalls_in (n - i) (drop (i * words_in_upcall) t)) (At 0) (omega (arith, upcalls_length (n - i) (drop (i * words_in_upcall) t)), ap f r ∙ is.1, λ m b. absurd (omega arith)))
+      sym (first_only f (upcalls_in (n - i) (drop (i * words_in_upcall) t)) (Some 0) (omega (arith, upcalls_length (n - i) (drop (i * words_in_upcall) t)), ap f r ∙ is.1, λ m b. absurd (omega arith)))
 
   rows_read : n * words_in_upcall ≤ length t → grid upcall_words no_upcall i (upcalls_in i t) ≡ take (i * words_in_upcall) t
   unfolding part
@@ -124,9 +109,9 @@ module _ (t : List ℕ) (n i : ℕ) (b : i ≤ n) where
       }
 
 -- where the first row is of the slot, it has gone before the loop begins
-pub kept_first : (k j n : ℕ) (t : List ℕ) → n * words_in_upcall ≤ length t → first_match (is_of k j) (upcalls_in n t) ≡ At 0 → (1 ≤ n) × Kept k j 1 t 0 t
+pub kept_first : (k j n : ℕ) (t : List ℕ) → n * words_in_upcall ≤ length t → first_match (is_of k j) (upcalls_in n t) ≡ Some 0 → (1 ≤ n) × Kept k j 1 t 0 t
 kept_first k j n t h e =
-    let is : IsFirst (is_of k j) (upcalls_in n t) (At 0) = first_found (is_of k j) (upcalls_in n t) (At 0) (sym e) in
+    let is : IsFirst (is_of k j) (upcalls_in n t) (Some 0) = first_found (is_of k j) (upcalls_in n t) (Some 0) (sym e) in
     let some : 1 ≤ n = omega (arith, is.0, upcalls_length n t) in
     (some, kept_goes k j 0 t 0 t (kept_none k j t) (omega arith) (read_upcall t (0 * words_in_upcall)) refl 0 t (ap (is_of k j) (sym (tab_at n _ 0 no_upcall some)) ∙ is.1) refl refl)
 
@@ -152,19 +137,19 @@ module _ (run : List ℕ) (a b : ℕ) where
       ∙ sym (rest_back run a (take b (mid_of a (length run - a) run) ++ after) ∙ ap (λ (l : List ℕ). take a run ++ (take b l ++ after)) (rest_lent run a))
 
 -- what is lent from a match on begins with it
-pub lent_first : (f : Upcall → Bool) (run : List ℕ) (n i from : ℕ) → from ≡ queue_from + i * words_in_upcall → i ≤ n → At i ≡ first_match f (upcalls_in n (lent run))
-    → first_match f (upcalls_in (n - i) (mid_of from (length run - from) run)) ≡ At 0
+pub lent_first : (f : Upcall → Bool) (run : List ℕ) (n i from : ℕ) → from ≡ queue_from + i * words_in_upcall → i ≤ n → Some i ≡ first_match f (upcalls_in n (lent run))
+    → first_match f (upcalls_in (n - i) (mid_of from (length run - from) run)) ≡ Some 0
 lent_first f run n i from s b e =
     ap (λ (l : List ℕ). first_match f (upcalls_in (n - i) l)) (ap (λ (a : ℕ). mid_of a (length run - a) run) s ∙ lent_further run queue_from (i * words_in_upcall))
     ∙ first_there (lent run) n i b f e
 
 -- the rows from the first match on become what the cancel leaves of them, and the count is less by those that have gone
-pub found_does : (k j : ℕ) (run after : List ℕ) (n i gone : ℕ) → n ≡ get_or run 2 0 → n * words_in_upcall ≤ length (lent run) → i ≤ n → At i ≡ first_match (is_of k j) (upcalls_in n (lent run)) → gone ≤ n - i
+pub found_does : (k j : ℕ) (run after : List ℕ) (n i gone : ℕ) → n ≡ get_or run 2 0 → n * words_in_upcall ≤ length (lent run) → i ≤ n → Some i ≡ first_match (is_of k j) (upcalls_in n (lent run)) → gone ≤ n - i
     → Keeps (cancel k j) (n - i) (mid_of (queue_from + i * words_in_upcall) (length run - (queue_from + i * words_in_upcall)) run) (n - i - gone) after
     → Does (λ p. with_queue (cancel k j p.queue) p) run (set (put_mid (queue_from + i * words_in_upcall) (length run - (queue_from + i * words_in_upcall)) run after) 2 (n - gone))
 found_does k j run after n i gone e h b s g x =
     let l : List ℕ = lent run in
-    let is : IsFirst (is_of k j) (upcalls_in n l) (At i) = first_found (is_of k j) (upcalls_in n l) (At i) s in
+    let is : IsFirst (is_of k j) (upcalls_in n l) (Some i) = first_found (is_of k j) (upcalls_in n l) (Some i) s in
     let from : Keeps (cancel k j) (n - i) (drop (i * words_in_upcall) l) (n - i - gone) after =
     subst (λ (r : List ℕ). Keeps (cancel k j) (n - i) r (n - i - gone) after) (lent_further run queue_from (i * words_in_upcall)) x in
     let all : Keeps (cancel k j) n l (i + (n - i - gone)) (take (i * words_in_upcall) l ++ after) = keeps_all l n i b k j (n - i - gone) after h is.2 from in

@@ -1,13 +1,13 @@
 -- What a contract says by a relation, it says of one outcome: for the same inputs no other answer, and no other words or bytes, meet it. So a wrong answer
 -- of an inner function is refuted by its own statement, too. A contract that is an equation needs no more; relations with a type that only its crate knows have
 -- their theorem there (`OneReading` in `trace`, `OneTurn` in `layer`).
-use Rattle.std.specs.Prelude.{ℕ, ◌^◌, ◌<◌, ◌≡◌, refl, Bool, true, false, List, [], ◌++◌, length, drop, leb, ltb}
+use Rattle.std.specs.Prelude.{ℕ, ◌^◌, ◌<◌, ◌≡◌, refl, Bool, true, false, List, [], ◌∷◌, ◌++◌, length, drop, get_or, leb, ltb, Option, Some, None, Result, Ok, Err}
 use Rattle.std.proofs.Common.{sym, ap, ◌∙◌, arith, ltb-true, ltb-false}
 use Rattle.std.specs.Borrow.{Bor}
 use Rattle.definition.specs.Tests.{provided◌then◌else◌}
 use Rattle.definition.specs.Limits.{max_board_words}
 use Rattle.definition.specs.State.{Process, State, Upcall}
-use Rattle.definition.specs.Answer.{Answer, Part, number_of}
+use Rattle.definition.specs.Answer.{Answer, Part, fetched, number_of}
 use Rattle.definition.specs.Decide.{Action}
 use Rattle.definition.specs.Image.{process_words, image_of}
 use Rattle.definition.specs.Trace.{Found, found}
@@ -16,22 +16,22 @@ use Rattle.definition.specs.Replay.{Played}
 use Rattle.laws.specs.Facts.{never}
 use Rattle.types.specs.declared.Image.{Image as Named}
 use Rattle.types.specs.declared.Image.TheVariants as names
+use Rattle.types.specs.declared.Refusal.{Refusal}
+use Rattle.types.specs.declared.Refusal.TheVariants as refuses
+use Rattle.types.specs.Meaning.{refusal_of}
 use Rattle.calls.specs.Moves.{LeadsTo}
-use Rattle.calls.specs.declared.signed.Place.{Place as Moved}
-use Rattle.calls.specs.declared.signed.Place.TheVariants.{At, Outside}
 use Rattle.trace.specs.Meaning.{Counted, board_told, words_after, Boarded}
-use Rattle.trace.specs.declared.numbers.Number.{Number}
-use Rattle.trace.specs.declared.records.Words.{Words}
-use Rattle.trace.specs.declared.records.Words.TheVariants.{NoRoom}
+use Rattle.trace.specs.declared.numbers.ReadError.{ReadError}
+use Rattle.trace.specs.declared.records.BoardError.{BoardError}
+use Rattle.trace.specs.declared.records.BoardError.TheVariants.{NoRoom}
 use Rattle.lines.specs.Puts.{Put}
 use Rattle.process.specs.Runs.{Held, Does, Gives}
 use Rattle.process.specs.QueueRows.{Keeps}
 use Rattle.table.specs.Tables.{Holds, Turns, Tells}
 use Rattle.layer.specs.declared.Place.{Place}
-use Rattle.layer.specs.declared.Fetched.{Fetched}
 use Rattle.layer.specs.declared.Progress.{Progress}
 use Rattle.layer.specs.Steps.{lent, Refuses}
-use Rattle.layer.specs.Fetching.{part_of, image_of as imageNamed, Lies, Finds, IsPart}
+use Rattle.layer.specs.Fetching.{part_of, part_at, image_of as imageNamed, handed, Lies, Finds, IsPart}
 use Rattle.layer.specs.Replaying.{Leaves}
 use Rattle.layer.specs.StatementLaws.{part_size}
 use Rattle.host.specs.Runs.{progress_words, RunTold, NotRun, Runs}
@@ -55,42 +55,42 @@ one_kept f x y = (x.count ∙ sym y.count, x.words ∙ sym y.words)
 
 -- ---- a signed change of an address, which is a word
 
-abbrev pub Word : Moved → Type 0
-Word (At n) = n < 2 ^ 32
-Word Outside = Unit {0}
+abbrev pub Word : Option ℕ → Type 0
+Word (Some n) = n < 2 ^ 32
+Word None = Unit {0}
 
-pub one_place : {from word : ℕ} (r r' : Moved) → Word r → Word r' → LeadsTo from word r → LeadsTo from word r' → r ≡ r'
+pub one_place : {from word : ℕ} (r r' : Option ℕ) → Word r → Word r' → LeadsTo from word r → LeadsTo from word r' → r ≡ r'
 one_place {from} {word} r r' h h' x y = by (ltb word (2 ^ 31)) refl r r' h h' x y
   where
-    by : (t : Bool) → ltb word (2 ^ 31) ≡ t → (r r' : Moved) → Word r → Word r' → LeadsTo from word r → LeadsTo from word r' → r ≡ r'
-    by true e (At n) (At k) h h' x y = ap At (omega (arith, x.up (ltb-true _ _ e), y.up (ltb-true _ _ e)))
-    by true e (At n) Outside h h' x y = never (omega (arith, h, x.up (ltb-true _ _ e), y.up (ltb-true _ _ e)))
-    by true e Outside (At k) h h' x y = never (omega (arith, h', x.up (ltb-true _ _ e), y.up (ltb-true _ _ e)))
-    by true e Outside Outside h h' x y = refl
-    by false e (At n) (At k) h h' x y = ap At (omega (arith, x.down (ltb-false _ _ e), y.down (ltb-false _ _ e)))
-    by false e (At n) Outside h h' x y = never (omega (arith, x.down (ltb-false _ _ e), y.down (ltb-false _ _ e)))
-    by false e Outside (At k) h h' x y = never (omega (arith, x.down (ltb-false _ _ e), y.down (ltb-false _ _ e)))
-    by false e Outside Outside h h' x y = refl
+    by : (t : Bool) → ltb word (2 ^ 31) ≡ t → (r r' : Option ℕ) → Word r → Word r' → LeadsTo from word r → LeadsTo from word r' → r ≡ r'
+    by true e (Some n) (Some k) h h' x y = ap Some (omega (arith, x.up (ltb-true _ _ e), y.up (ltb-true _ _ e)))
+    by true e (Some n) None h h' x y = never (omega (arith, h, x.up (ltb-true _ _ e), y.up (ltb-true _ _ e)))
+    by true e None (Some k) h h' x y = never (omega (arith, h', x.up (ltb-true _ _ e), y.up (ltb-true _ _ e)))
+    by true e None None h h' x y = refl
+    by false e (Some n) (Some k) h h' x y = ap Some (omega (arith, x.down (ltb-false _ _ e), y.down (ltb-false _ _ e)))
+    by false e (Some n) None h h' x y = never (omega (arith, x.down (ltb-false _ _ e), y.down (ltb-false _ _ e)))
+    by false e None (Some k) h h' x y = never (omega (arith, x.down (ltb-false _ _ e), y.down (ltb-false _ _ e)))
+    by false e None None h h' x y = refl
 
 -- ---- bytes that are put, and a board that is read
 
 pub one_put : {l before a a' : List ℕ} {at next next' : ℕ} → Put l at before a next → Put l at before a' next' → (a ≡ a') × (next ≡ next')
 one_put x y = (x.left ∙ sym y.left, x.place ∙ sym y.place)
 
-pub one_board : (f : Found (List ℕ)) (old : List ℕ) {r r' : Words} {a a' : List ℕ} → Boarded f old r a → Boarded f old r' a' → (r ≡ r') × (a ≡ a')
+pub one_board : (f : Found (List ℕ)) (old : List ℕ) {r r' : Result (ℕ × ℕ) BoardError} {a a' : List ℕ} → Boarded f old r a → Boarded f old r' a' → (r ≡ r') × (a ≡ a')
 unfolding Boarded provided◌then◌else◌
 one_board f old {r} {r'} {a} {a'} x y = by (leb max_board_words (length old)) x y
   where
     -- in both cases the answer and the words are equal to something
-    Are : Bool → Words → List ℕ → Type 0
-    Are t r a = provided t then ((r ≡ board_told f) × (a ≡ words_after f old)) else ((r ≡ NoRoom) × (a ≡ old))
+    Are : Bool → Result (ℕ × ℕ) BoardError → List ℕ → Type 0
+    Are t r a = provided t then ((r ≡ board_told f) × (a ≡ words_after f old)) else ((r ≡ Err NoRoom) × (a ≡ old))
 
     by : (t : Bool) → Are t r a → Are t r' a' → (r ≡ r') × (a ≡ a')
     by true x y = (x.0 ∙ sym y.0, x.1 ∙ sym y.1)
     by false x y = (x.0 ∙ sym y.0, x.1 ∙ sym y.1)
 
 -- where its words are read: of one that is broken or cut only the answer is told, and what stands in the words is not read
-pub one_counted : (words : List ℕ) (after : ℕ) (old : List ℕ) {a a' : List ℕ} {r r' : Number} → Counted (found words after) old r a → Counted (found words after) old r' a' → (r ≡ r') × (a ≡ a')
+pub one_counted : (words : List ℕ) (after : ℕ) (old : List ℕ) {a a' : List ℕ} {r r' : Result (ℕ × ℕ) ReadError} → Counted (found words after) old r a → Counted (found words after) old r' a' → (r ≡ r') × (a ≡ a')
 unfolding Counted
 one_counted words after old x y = (x.0 ∙ sym y.0, x.1 ∙ sym y.1)
 
@@ -120,14 +120,53 @@ one_lies {x} {r} {r'} a b = same_place (same_name r.image r'.image (a.image ∙ 
 pub one_part : {x : Part} {m f r r' : Bor (List ℕ)} → IsPart x m f r → IsPart x m f r' → (r.now ≡ r'.now) × (r.ref_ptr ≡ r'.ref_ptr)
 one_part a b = (a.bytes ∙ sym b.bytes, a.place ∙ sym b.place)
 
-pub one_found : {r : Answer} {m f : List ℕ} {x x' : Fetched} → Finds r m f x → Finds r m f x' → x ≡ x'
-one_found {r} {m} {f} {x} {x'} a b =
-    let e = sym a.answer ∙ b.answer in
-    let p = ap part_of e in
-    λ i. record {
-      number = ap number_of e i;
-      place = same_place {x = x.place} {y = x'.place} (same_name _ _ (ap (λ p. p.image) p)) (ap (λ p. p.place) p) (part_size x.place m f a.inside ∙ ap (λ p. length p.bytes) p ∙ sym (part_size x'.place m f b.inside)) i;
-    }
+-- each refusal has a number of its own, and what is accepted has none of them
+abbrev why : {A : Type 0} → Result A Refusal → Option Refusal
+why (Ok x) = None
+why (Err e) = Some e
+
+abbrev by_number : List (Option Refusal)
+by_number =
+    None ∷ Some refuses.NoImage ∷ Some refuses.NoTable ∷ Some refuses.NoProcess ∷ Some refuses.ProcessExited ∷ Some refuses.ProcessWaits ∷ Some refuses.ProcessRuns
+    ∷ Some refuses.NoDriver ∷ Some refuses.NoSlot ∷ Some refuses.PastTheBuffer ∷ Some refuses.QueueFull ∷ Some refuses.NullUpcall ∷ Some refuses.NotShared
+    ∷ Some refuses.NoBoard ∷ []
+
+numbered : {A : Type 0} (x : Result A Refusal) → get_or by_number (refusal_of x) None ≡ why x
+numbered (Ok x) = refl
+numbered (Err refuses.NoImage) = refl
+numbered (Err refuses.NoTable) = refl
+numbered (Err refuses.NoProcess) = refl
+numbered (Err refuses.ProcessExited) = refl
+numbered (Err refuses.ProcessWaits) = refl
+numbered (Err refuses.ProcessRuns) = refl
+numbered (Err refuses.NoDriver) = refl
+numbered (Err refuses.NoSlot) = refl
+numbered (Err refuses.PastTheBuffer) = refl
+numbered (Err refuses.QueueFull) = refl
+numbered (Err refuses.NullUpcall) = refl
+numbered (Err refuses.NotShared) = refl
+numbered (Err refuses.NoBoard) = refl
+
+one_refusal : {A : Type 0} (x x' : Result A Refusal) → refusal_of x ≡ refusal_of x' → why x ≡ why x'
+one_refusal x x' e = sym (numbered x) ∙ ap (λ n. get_or by_number n None) e ∙ numbered x'
+
+pub one_found : {r : Answer} {m f : List ℕ} {x x' : Result Place Refusal} → Finds r m f x → Finds r m f x' → x ≡ x'
+one_found {r} {m} {f} {x} {x'} a b = by x x' (one_refusal x x' (ap number_of e)) (same_place (same_name _ _ (ap (λ p. p.image) p)) (ap (λ p. p.place) p) size)
+  where
+    e : fetched (refusal_of x) (part_at (handed x) m f) ≡ fetched (refusal_of x') (part_at (handed x') m f)
+    e = sym a.answer ∙ b.answer
+
+    p : part_at (handed x) m f ≡ part_at (handed x') m f
+    p = ap part_of e
+
+    size : (handed x).length ≡ (handed x').length
+    size = part_size (handed x) m f a.inside ∙ ap (λ p. length p.bytes) p ∙ sym (part_size (handed x') m f b.inside)
+
+    by : (x x' : Result Place Refusal) → why x ≡ why x' → handed x ≡ handed x' → x ≡ x'
+    by (Ok y) (Ok y') w h = ap Ok h
+    by (Ok y) (Err k) w h = never (cc)
+    by (Err k) (Ok y) w h = never (cc)
+    by (Err k) (Err k') w h = ap Err (cc)
 
 -- ---- a run over a trace: how far it came, and every word and byte
 

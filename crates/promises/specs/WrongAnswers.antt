@@ -1,7 +1,7 @@
 -- Wrong answers of each public function of the layer contradict its statement, on tables that are reached from the start of the cases: no code whatever could
 -- be proved with them.
 use Prim.Native.Nat.{ℕ, ◌+◌}
-use Rattle.std.specs.Prelude.{◌≡◌, refl, false, List, [], ◌∷◌, length, get_or}
+use Rattle.std.specs.Prelude.{◌≡◌, refl, false, List, [], ◌∷◌, length, get_or, Result}
 use Rattle.std.proofs.Common.{sym, ◌∙◌}
 use Rattle.std.proofs.Math.Path.{ap}
 use Rattle.std.specs.Borrow.{Bor}
@@ -20,12 +20,13 @@ use Rattle.definition.specs.Cases.{zeros}
 use Rattle.definition.specs.TraceCases.{whole_trace, in_room, rooms_kept}
 use Rattle.laws.specs.Good.{Good, of_good}
 use Rattle.laws.specs.ImageBack.{good_back}
+use Rattle.types.specs.declared.Refusal.{Refusal}
+use Rattle.types.specs.Meaning.{refusal_of}
 use Rattle.layer.specs.declared.Place.{Place}
-use Rattle.layer.specs.declared.Fetched.{Fetched}
 use Rattle.layer.specs.declared.Progress.{Progress}
 use Rattle.layer.specs.declared.Progress.TheVariants.{Paused}
 use Rattle.layer.specs.Steps.{gave, Makes, MakesAlone, Starts}
-use Rattle.layer.specs.Fetching.{part_of, Lies, Finds, stands_at, IsPart}
+use Rattle.layer.specs.Fetching.{part_of, handed, Lies, Finds, stands_at, IsPart}
 use Rattle.layer.specs.Replaying.{progress_by, Plays}
 use Rattle.layer.specs.StatementLaws.{part_size}
 use Rattle.host.specs.Runs.{progress_words}
@@ -222,14 +223,14 @@ place_length r other p = other (p.size ∙ ap (λ a. length (part_of a).bytes) t
 pub place_elsewhere : (r : Place) → (r.place ≡ 0xF00 → ⊥) → ¬ Lies (part_of (read_after shows)) r
 place_elsewhere r other p = other (p.place ∙ ap (λ a. (part_of a).place) two_read)
 
-module _ (r : Fetched) where
-  pub fetch_refused : (r.number ≡ 0 → ⊥) → ¬ Finds (read_after shows) (memory_at shows) (at shows).flash r
+module _ (r : Result Place Refusal) where
+  pub fetch_refused : (refusal_of r ≡ 0 → ⊥) → ¬ Finds (read_after shows) (memory_at shows) (at shows).flash r
   fetch_refused other p = other (ap number_of (sym p.answer ∙ two_read))
 
-  pub fetch_length : (r.place.length ≡ 2 → ⊥) → ¬ Finds (read_after shows) (memory_at shows) (at shows).flash r
-  fetch_length other p = other (part_size r.place _ _ p.inside ∙ ap (λ a. length (part_of a).bytes) (sym p.answer ∙ two_read))
+  pub fetch_length : ((handed r).length ≡ 2 → ⊥) → ¬ Finds (read_after shows) (memory_at shows) (at shows).flash r
+  fetch_length other p = other (part_size (handed r) _ _ p.inside ∙ ap (λ a. length (part_of a).bytes) (sym p.answer ∙ two_read))
 
-  pub fetch_elsewhere : (r.place.place ≡ 0xF00 → ⊥) → ¬ Finds (read_after shows) (memory_at shows) (at shows).flash r
+  pub fetch_elsewhere : ((handed r).place ≡ 0xF00 → ⊥) → ¬ Finds (read_after shows) (memory_at shows) (at shows).flash r
   fetch_elsewhere other p = other (ap (λ a. (part_of a).place) (sym p.answer ∙ two_read))
 
 -- ---- a run over the trace of the whole case, into a buffer of 64 bytes: the second record, at place 37, has no room

@@ -3,7 +3,7 @@
 // the program with status 1.
 #![tactic(auto)]
 
-ghost use Rattle.std.specs.Prelude.{◌⊎◌, ◌≡◌, ◌≤◌, ◌<◌, length, IfOk};
+ghost use Rattle.std.specs.Prelude.{◌≤◌, ◌<◌, length, IfOk, IfSome};
 
 mod streams;
 
@@ -11,7 +11,6 @@ use layer::Progress;
 use lines::Line;
 use std::io::{self, Write};
 use std::process::ExitCode;
-use streams::Input;
 use table::Table;
 use types::Image;
 
@@ -21,7 +20,7 @@ const MAX_TRACE: usize = 65536;
 // Room for the longest line, that of a fetch of a whole image, so that each turn comes further.
 const ROOM: usize = 4 * Image::BYTES + Line::ROOM;
 
-// Lines from a place of the trace on; the place to go on from, or 0 where there are no more.
+// Lines from a place of the trace on; the place to go on from, where there are more.
 fn write_lines<W: Write>(
     output: &mut W,
     trace: &[u8],
@@ -29,23 +28,19 @@ fn write_lines<W: Write>(
     table: &mut [u32],
     memory: &mut [u8],
     flash: &[u8],
-) -> io::Result<usize>
-    ensures { IfOk result (λ next. (next ≡ 0) ⊎ ((at < next) × (next ≤ length trace.now))) }
+) -> io::Result<Option<usize>>
+    ensures { IfOk result (λ more. IfSome more (λ next. (at < next) × (next ≤ length trace.now))) }
 {
     let mut lines = [0u8; ROOM];
-    match layer::replay(trace, at, table, memory, flash, &mut lines) {
-        Progress::Ended(written) => {
-            streams::put(output, &lines[..written])?;
-            Ok(0)
-        }
-        Progress::Paused(next, written) => {
-            streams::put(output, &lines[..written])?;
-            Ok(next)
-        }
-    }
+    let (more, written) = match layer::replay(trace, at, table, memory, flash, &mut lines) {
+        Progress::Ended(n) => (None, &lines[..n]),
+        Progress::Paused(next, n) => (Some(next), &lines[..n]),
+    };
+    streams::put(output, written)?;
+    Ok(more)
 }
 
-// All lines: each turn comes further in the trace.
+// All lines: each turn comes further in the trace, and says where the next one goes on. What is lent goes by name, as `layer::replay` takes it.
 fn write_all_lines<W: Write>(
     output: &mut W,
     trace: &[u8],
@@ -53,9 +48,9 @@ fn write_all_lines<W: Write>(
     memory: &mut [u8],
     flash: &[u8],
 ) -> io::Result<()> {
-    let mut at = write_lines(output, trace, 0, table, memory, flash)?;
-    while at != 0 {
-        at = write_lines(output, trace, at, table, memory, flash)?;
+    let mut more = Some(0);
+    while let Some(at) = more {
+        more = write_lines(output, trace, at, table, memory, flash)?;
     }
     Ok(())
 }
@@ -85,9 +80,9 @@ fn main(rt: HostRuntime) -> ExitCode {
     let mut input = [0u8; MAX_TRACE + 1];
     let mut output = rt.stdout();
     let written = match streams::get(&mut rt.stdin(), &mut input) {
-        Input::Whole(n) => replay(&mut output, &input[..n]),
-        Input::Full => tell_too_long(&mut output),
-        Input::Failed(why) => return fail(&rt, "the trace could not be read", &why),
+        Ok(Some(n)) => replay(&mut output, &input[..n]),
+        Ok(None) => tell_too_long(&mut output),
+        Err(why) => return fail(&rt, "the trace could not be read", &why),
     };
     match written {
         Ok(()) => ExitCode::SUCCESS,

@@ -3,7 +3,7 @@
 ghost use Rattle.std.specs.Prelude.{◌≤◌, length, IfOk, OnOk};
 ghost use Rattle.std.specs.Io.{ReadsAtMost};
 ghost use Rattle.std.specs.Io.KnownBytes.{Appends, ReadConsumes, WriteAppends};
-ghost use Rattle.replay.specs.Counts.{Some, SomeRead, All, AllRead};
+ghost use Rattle.replay.specs.Counts.{All, AllRead};
 
 use std::io::{self, ErrorKind, Read, Write};
 use std::thread;
@@ -11,29 +11,9 @@ use std::thread;
 // How often one read or write is tried: another process runs in between, so that a reader or a writer that is there comes in time.
 const TRIES: usize = 10000;
 
-// What a reader had: all of it, so many bytes; as many as there is room for, or more; or it could not be read.
-#[derive(Drop)]
-pub(crate) enum Input {
-    Whole(usize),
-    Full,
-    Failed(io::Error),
-}
-
-// What one read gave: some bytes, the end, or a failure.
-#[derive(Drop)]
-enum Piece {
-    Bytes(usize),
-    End,
-    Failed(io::Error),
-}
-
 // The call was interrupted, or would have had to wait.
 fn is_passing(error: &io::Error) -> bool {
-    let kind = error.kind();
-    if kind == ErrorKind::Interrupted {
-        return true;
-    }
-    kind == ErrorKind::WouldBlock
+    matches!(error.kind(), ErrorKind::Interrupted | ErrorKind::WouldBlock)
 }
 
 // Writes some of the bytes: how many.
@@ -43,19 +23,14 @@ fn put_some<W: Write>(output: &mut W, bytes: &[u8]) -> io::Result<usize>
 {
     for _ in 1..TRIES {
         match output.write(bytes) {
-            Ok(n) => return Ok(n),
-            Err(error) => {
-                if !is_passing(&error) {
-                    return Err(error);
-                }
-            }
+            Err(error) if is_passing(&error) => thread::yield_now(),
+            tried => return tried,
         }
-        thread::yield_now();
     }
     output.write(bytes)
 }
 
-// Writes all of the bytes, or tells why it cannot.
+// Writes all of the bytes, or tells why it cannot. `write_all` would give up at a writer that would block.
 pub(crate) fn put<W: Write>(output: &mut W, bytes: &[u8]) -> io::Result<()>
     ensures { OnOk result (Appends (W.contents output.old) (W.contents output.new) bytes.now) }
 {
@@ -71,54 +46,35 @@ pub(crate) fn put<W: Write>(output: &mut W, bytes: &[u8]) -> io::Result<()>
     Ok(())
 }
 
-// Reads some bytes to the front of a slice: how many.
+// Reads some bytes to the front of a slice: how many. One function for this and `put_some` would take the call as a closure, and would say over the states of
+// that closure what these clauses say of a stream: longer than the lines that it saves.
 fn read_some<R: Read>(input: &mut R, bytes: &mut [u8]) -> io::Result<usize>
     ensures bound { ReadsAtMost result bytes.new }
     ensures bytes { ReadConsumes (R.remaining input.old) (R.remaining input.new) result bytes.new }
 {
     for _ in 1..TRIES {
         match input.read(bytes) {
-            Ok(n) => return Ok(n),
-            Err(error) => {
-                if !is_passing(&error) {
-                    return Err(error);
-                }
-            }
+            Err(error) if is_passing(&error) => thread::yield_now(),
+            tried => return tried,
         }
-        thread::yield_now();
     }
     input.read(bytes)
 }
 
-// Reads some bytes to the front of a slice that is not empty.
-fn get_some<R: Read>(input: &mut R, bytes: &mut [u8]) -> Piece
-    ensures count { Some (length bytes.old) result }
-    ensures bytes { SomeRead (R.remaining input.old) (R.remaining input.new) result bytes.new }
-{
-    match read_some(input, bytes) {
-        Ok(n) => {
-            if n == 0 {
-                return Piece::End;
-            }
-            Piece::Bytes(n)
-        }
-        Err(error) => Piece::Failed(error),
-    }
-}
-
-// Reads all of a reader to the front of a slice, or tells why it cannot.
-pub(crate) fn get<R: Read>(input: &mut R, bytes: &mut [u8]) -> Input
+// Reads all of a reader to the front of a slice, or tells why it cannot: so many bytes, or `None` where there are as many as there is room for, or more.
+// `read_exact` calls an end before the slice is full an error, and would not tell how far it came.
+pub(crate) fn get<R: Read>(input: &mut R, bytes: &mut [u8]) -> io::Result<Option<usize>>
     ensures count { All (length bytes.old) result }
     ensures bytes { AllRead (R.remaining input.old) (R.remaining input.new) result bytes.new }
 {
     let n = bytes.len();
     let mut done = 0;
     while done < n {
-        match get_some(input, &mut bytes[done..]) {
-            Piece::Bytes(some) => done += some,
-            Piece::End => return Input::Whole(done),
-            Piece::Failed(error) => return Input::Failed(error),
+        let some = read_some(input, &mut bytes[done..])?;
+        if some == 0 {
+            return Ok(Some(done));
         }
+        done += some;
     }
-    Input::Full
+    Ok(None)
 }

@@ -6,10 +6,10 @@ use Rattle.host.specs.Answers.{located_words}
 use Rattle.host.proofs.WordLaws.{asked_nothing, asked_answer}
 use Rattle.host.proofs.mk_area.Goals as goal
 
-pub returns-then-out-lt-WORDS : goal.returns-then-out-lt-WORDS
-returns-then-out-lt-WORDS c = asked_nothing _ _ c.if-out-lt-WORDS.true
+pub returns-in_default : goal.returns-in_default
+returns-in_default c = asked_nothing _ _ c.in_default.ensures.cases
 
 pub returns : goal.returns
 returns c =
-    asked_answer _ c.args.out.now _ _ c.if-out-lt-WORDS.false
-    (ap located_words (c.area-located.ensures ∙ ap (λ (kind : Kind). locate kind c.args.process c.args.driver c.args.slot c.args.table.now) c.lent_by-kind.ensures)) c.tell_located.ensures
+    asked_answer _ _ c.in-Some.ensures.cases.enough
+    (c.words_located.ensures ∙ ap located_words (c.area-located.ensures ∙ ap (λ (kind : Kind). locate kind c.args.process c.args.driver c.args.slot c.args.table.now) c.lent_by-kind.ensures))

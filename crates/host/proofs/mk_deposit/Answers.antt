@@ -2,8 +2,8 @@
 use Rattle.host.proofs.WordLaws.{told_nothing, told_answer}
 use Rattle.host.proofs.mk_deposit.Goals as goal
 
-pub returns-then-out-lt-WORDS : goal.returns-then-out-lt-WORDS
-returns-then-out-lt-WORDS c f = told_nothing _ _ _ c.if-out-lt-WORDS.true
+pub returns-in_default : goal.returns-in_default
+returns-in_default c f = told_nothing _ _ _ c.in_default.ensures.cases
 
 pub returns : goal.returns
-returns c f = told_answer _ _ _ _ _ _ c.if-out-lt-WORDS.false (c.deposit-deposited.ensures f) c.tell.ensures
+returns c f = told_answer _ _ _ _ _ c.in-Some.ensures.cases.enough (c.deposit-deposited.ensures f) c.words_of.ensures

@@ -2,8 +2,8 @@
 use Rattle.host.proofs.WordLaws.{told_nothing, told_fetched}
 use Rattle.host.proofs.mk_fetch.Goals as goal
 
-pub returns-then-out-lt-WORDS : goal.returns-then-out-lt-WORDS
-returns-then-out-lt-WORDS c = told_nothing _ _ _ c.if-out-lt-WORDS.true
+pub returns-in_default : goal.returns-in_default
+returns-in_default c = told_nothing _ _ _ c.in_default.ensures.cases
 
 pub returns : goal.returns
-returns c = told_fetched _ _ _ _ _ _ _ _ _ c.if-out-lt-WORDS.false c.fetch_answer-fetched.ensures c.tell_fetched.ensures
+returns c = told_fetched _ _ _ _ _ _ _ _ c.in-Some.ensures.cases.enough c.fetch_answer-fetched.ensures c.words_fetched.ensures

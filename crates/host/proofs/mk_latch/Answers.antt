@@ -9,10 +9,10 @@ use Rattle.layer.specs.Steps.{lent}
 use Rattle.host.proofs.WordLaws.{told_nothing, told_answer}
 use Rattle.host.proofs.mk_latch.Goals as goal
 
-pub returns-then-out-lt-WORDS : goal.returns-then-out-lt-WORDS
-returns-then-out-lt-WORDS c m f = told_nothing _ _ _ c.if-out-lt-WORDS.true
+pub returns-in_default : goal.returns-in_default
+returns-in_default c m f = told_nothing _ _ _ c.in_default.ensures.cases
 
 pub returns : goal.returns
 returns c m f =
-    told_answer _ _ _ _ _ _ c.if-out-lt-WORDS.false
-    (ap (λ z. table_step (latch c.args.driver (word_of z)) (lent c.args.table.now m f)) (sym (to_z-of_z w32 c.args.peak c.ranges.peak)) ∙ c.latch-latched.ensures m f) c.tell.ensures
+    told_answer _ _ _ _ _ c.in-Some.ensures.cases.enough
+    (ap (λ z. table_step (latch c.args.driver (word_of z)) (lent c.args.table.now m f)) (sym (to_z-of_z w32 c.args.peak c.ranges.peak)) ∙ c.latch-latched.ensures m f) c.words_of.ensures

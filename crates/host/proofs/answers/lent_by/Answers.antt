@@ -1,16 +1,16 @@
--- The class is tested against those of the two allows.
-use borrow.Author.Tests.{eq-eqb, ne_eqb}
+-- The class is one of those of the two allows, or neither.
+use Rattle.std.proofs.Common.{rules}
 use Rattle.definition.specs.Tests.{provided◌then◌else◌}
 use Rattle.host.proofs.answers.lent_by.Goals as goal
 
-pub returns-then-class-eq3 : goal.returns-then-class-eq3
+pub returns-in-3 : goal.returns-in-3
 unfolding provided◌then◌else◌
-returns-then-class-eq3 c = rw (eq-eqb c.args.class 3 c.if-class-eq3.true)
+returns-in-3 c = search rules
 
-pub returns-then-class-eq4 : goal.returns-then-class-eq4
+pub returns-in-4 : goal.returns-in-4
 unfolding provided◌then◌else◌
-returns-then-class-eq4 c = let class = c.args.class in rw (ne_eqb class 3 c.if-class-eq3.false, eq-eqb class 4 c.if-class-eq4.true)
+returns-in-4 c = search rules
 
-pub returns : goal.returns
+pub returns-in_default : goal.returns-in_default
 unfolding provided◌then◌else◌
-returns c = let class = c.args.class in rw (ne_eqb class 3 c.if-class-eq3.false, ne_eqb class 4 c.if-class-eq4.false)
+returns-in_default c = search rules

@@ -1,13 +1,12 @@
--- The number is that of the rows; where it is 0 the slot can be read, and its buffer is told.
-use Rattle.layer.proofs.RefusalLaws.{slot_within}
+-- A refusal is that of the rows; else the slot can be read, and its buffer is told.
+use Rattle.layer.proofs.RefusalLaws.{named_held}
 use Rattle.layer.proofs.QuestionLaws.{asked_refused, asked_told}
 use Rattle.layer.proofs.buffers.locate.Goals as goal
 
-pub returns-then-n-ne0 : goal.returns-then-n-ne0
-returns-then-n-ne0 c = asked_refused _ _ _ _ _ _ _ c.place_of-place.ensures c.question-n.ensures.0 c.if-n-ne0.true
-
-pub held-buffer-requires : goal.held-buffer-requires
-held-buffer-requires c = slot_within _ _ _ _ c.requires (c.question-n.ensures.1 c.if-n-ne0.false)
+pub returns-in_err-named : goal.returns-in_err-named
+returns-in_err-named c = asked_refused c.args.table.now _ _ _ _ _ _ c.from_residual.ensures.1 c.in_err-named.ensures.number
 
 pub returns : goal.returns
-returns c = asked_told _ _ _ _ _ _ _ c.place_of-place.ensures c.question-n.ensures.0 c.if-n-ne0.false _ _ c.held-buffer.ensures.0 c.held-buffer.ensures.1
+returns c =
+    let named = c.in_ok-named.ensures in
+    asked_told c.args.table.now _ _ _ _ named.number _ _ (named_held _ c.requires _ _ _ _ _ named.slot c.held-pair.result c.held-pair.ensures) c.area_of-area.ensures

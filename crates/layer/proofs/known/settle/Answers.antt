@@ -1,21 +1,34 @@
 -- Each return is a command's answer on the claim that was read, and the claim that it leaves.
-use Rattle.layer.proofs.CommandLaws.{takes_free, takes_own, takes_none, not_owner, gives_up, reads_latch, owner_settled, claim_settled}
+use mathlib.Core.Path.{ap}
+use native.Mathlib.Omega.{arith}
+use Rattle.table.specs.Meaning.{owner_number}
+use Rattle.layer.proofs.CommandLaws.{takes_free, takes_own, not_owner, gives_up, reads_latch, owner_mine, owner_other, owner_settled, claim_settled}
 use Rattle.layer.proofs.known.settle.Goals as goal
+use Rattle.layer.proofs.known.settle.Goals.{in_default-via-in-None+else-number-eq1, in_default-via-in-Some+else-eq}
 
-pub returns-then-owner-eq0 : goal.returns-then-owner-eq0
-returns-then-owner-eq0 c = owner_settled _ c.requires.0 _ _ _ c.requires.2 _ c.claim_at-claim.ensures _ _ _ (takes_free _ _ _ c.if-number-eq1.true c.if-owner-eq0.true) c.success.ensures _ c.claim_for.ensures
+pub returns-in-None : goal.returns-in-None
+returns-in-None c = owner_settled _ c.requires.0 _ _ _ c.requires.2 _ c.claim_at-claim.ensures _ _ _ (takes_free _ _ _ c.if-number-eq1.true (ap owner_number c.in-None.is)) c.success.ensures _ c.claim_for.ensures
 
-pub returns-then-owner-mine : goal.returns-then-owner-mine
-returns-then-owner-mine c = claim_settled _ c.requires.0 _ _ _ c.requires.2 _ c.claim_at-claim.ensures _ _ (takes_own _ _ _ c.if-number-eq1.true c.if-owner-eq0.false c.if-owner-mine.true) c.success-then-owner-mine.ensures
+pub returns-in-1 : goal.returns-in-1
+returns-in-1 c =
+    let mine = owner_mine c.in-Some.is c.in-Some.owner-is c.if-eq.ensures in
+    claim_settled _ c.requires.0 _ _ _ c.requires.2 _ c.claim_at-claim.ensures _ _ (takes_own _ _ _ mine c.in-1.is) c.success-in-1.ensures
 
-pub returns-then-number-eq1 : goal.returns-then-number-eq1
-returns-then-number-eq1 c = claim_settled _ c.requires.0 _ _ _ c.requires.2 _ c.claim_at-claim.ensures _ _ (takes_none _ _ _ c.if-number-eq1.true c.if-owner-eq0.false c.if-owner-mine.false) c.failure.ensures
+pub returns-in-2 : goal.returns-in-2
+returns-in-2 c =
+    let mine = owner_mine c.in-Some.is c.in-Some.owner-is c.if-eq.ensures in
+    owner_settled _ c.requires.0 _ _ _ c.requires.2 _ c.claim_at-claim.ensures _ _ _ (gives_up _ _ _ mine c.in-2.is) c.success-in-2.ensures _ c.release.ensures
 
-pub returns-then-owner-mine-2 : goal.returns-then-owner-mine-2
-returns-then-owner-mine-2 c = claim_settled _ c.requires.0 _ _ _ c.requires.2 _ c.claim_at-claim.ensures _ _ (not_owner _ _ _ c.if-number-eq1.false c.if-owner-mine-2.true) c.failure-then-owner-mine-2.ensures
+pub returns-in_default-number : goal.returns-in_default-number
+returns-in_default-number c =
+    let mine = owner_mine c.in-Some.is c.in-Some.owner-is c.if-eq.ensures in
+    claim_settled _ c.requires.0 _ _ _ c.requires.2 _ c.claim_at-claim.ensures _ _ (reads_latch _ _ _ mine (λ one. absurd (omega arith)) (λ two. absurd (omega arith))) c.success_with_1.ensures
 
-pub returns-then-number-eq2 : goal.returns-then-number-eq2
-returns-then-number-eq2 c = owner_settled _ c.requires.0 _ _ _ c.requires.2 _ c.claim_at-claim.ensures _ _ _ (gives_up _ _ _ c.if-number-eq1.false c.if-owner-mine-2.false c.if-number-eq2.true) c.success-then-number-eq2.ensures _ c.release.ensures
-
-pub returns : goal.returns
-returns c = claim_settled _ c.requires.0 _ _ _ c.requires.2 _ c.claim_at-claim.ensures _ _ (reads_latch _ _ _ c.if-number-eq1.false c.if-owner-mine-2.false c.if-number-eq2.false) c.success_with_1.ensures
+pub returns-in_default : goal.returns-in_default
+returns-in_default c =
+    claim_settled _ c.requires.0 _ _ _ c.requires.2 _ c.claim_at-claim.ensures _ _
+    (elim c.in_default.branch [
+      | in_default-via-in-None+else-number-eq1 w ↦ let none = ap owner_number w.in-None.is in not_owner _ _ _ (λ h. absurd (omega arith)) (λ _. w.if-number-eq1.false)
+      | in_default-via-in-Some+else-eq w ↦ not_owner _ _ _ (owner_other w.in-Some.is w.in-Some.owner-is w.if-eq.ensures) (λ z. absurd (omega (arith, ap owner_number w.in-Some.is)))
+    ])
+    c.failure.ensures

@@ -1,13 +1,11 @@
 -- A board that was read is started; one that is broken or cut has its line.
-use mathlib.Core.Path.{◌≡◌, refl, sym}
+use mathlib.Core.Path.{◌≡◌, sym}
 use mathlib.Core.List.{List}
 use Prim.Native.Nat.{ℕ, ◌≤◌}
 use native.Mathlib.Omega.{arith}
 use lib.ListN.{length, take, length-take}
 use borrow.Author.Rules.{rules}
-use Rattle.definition.specs.Trace.{spoiled, cut}
-use Rattle.definition.specs.Replay.{play_board}
-use Rattle.trace.specs.Answers.{board_found, board_read, board_roomy}
+use Rattle.trace.specs.Answers.{board_found, board_read}
 use Rattle.layer.proofs.ReplayLaws.{plays_broken, plays_board}
 use Rattle.layer.proofs.replays.begin.Goals as goal
 
@@ -20,21 +18,13 @@ board_room n l e = omega (arith, length-take n l)
 pub slice_bounds-board-end : goal.slice_bounds-board-end
 slice_bounds-board-end c =
     let words = c.board_at.new.out in
-    board_room c.in-Read.count words (board_read _ _ words (search rules) _ c.board_at.ensures c.in-Read.is).2
+    board_room c.in-Ok.count words (board_read _ _ words (search rules) _ c.board_at.ensures c.in-Ok.is).2
 
 pub slice_bounds-start_on-end : goal.slice_bounds-start_on-end
-slice_bounds-start_on-end c = sym (board_read _ _ c.board_at.new.out (search rules) _ c.board_at.ensures c.in-Read.is).2
+slice_bounds-start_on-end c = sym (board_read _ _ c.board_at.new.out (search rules) _ c.board_at.ensures c.in-Ok.is).2
 
-pub returns-in-Read : goal.returns-in-Read
-returns-in-Read c = plays_board _ _ _ (omega arith) _ _ (board_read _ _ c.board_at.new.out (search rules) _ c.board_at.ensures c.in-Read.is).0 _ _ _ c.start_on.ensures
+pub returns-in-Ok : goal.returns-in-Ok
+returns-in-Ok c = plays_board _ _ _ (omega arith) _ _ (board_read _ _ c.board_at.new.out (search rules) _ c.board_at.ensures c.in-Ok.is).0 _ _ _ c.start_on.ensures
 
-pub returns-in-Broken : goal.returns-in-Broken
-unfolding play_board
-returns-in-Broken c = plays_broken _ _ _ (omega arith) spoiled (board_found _ _ _ (search rules) _ c.board_at.ensures c.in-Broken.is) refl _ _ c.put_broken.ensures c.put_broken.auto.out
-
-pub returns-in-Cut : goal.returns-in-Cut
-unfolding play_board
-returns-in-Cut c = plays_broken _ _ _ (omega arith) cut (board_found _ _ _ (search rules) _ c.board_at.ensures c.in-Cut.is) refl _ _ c.put_broken-in-Cut.ensures c.put_broken-in-Cut.auto.out
-
-pub returns-in-NoRoom : goal.returns-in-NoRoom
-returns-in-NoRoom c = absurd (board_roomy _ _ c.board_at.new.out (search rules) _ c.board_at.ensures c.in-NoRoom.is)
+pub returns-in-Err : goal.returns-in-Err
+returns-in-Err c = plays_broken _ _ _ (omega arith) c.board_at.new.out _ (board_found _ _ c.board_at.new.out (search rules) _ c.board_at.ensures c.in-Err.is) _ _ c.put_broken.ensures c.put_broken.auto.out

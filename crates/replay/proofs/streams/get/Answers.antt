@@ -16,9 +16,9 @@ front a k n xs ys within fits =
 pub loop-done-preserved : goal.loop-done-preserved
 loop-done-preserved g c =
     let done = c.loop-done.done in
-    let some = c.in-Bytes.some in
+    let some = c.in_ok-some.some in
     let xs = c.loop-done.bytes in
-    let ys = c.get_some.new.bytes in
+    let ys = c.read_some.new.bytes in
     let within : done ≤ length xs = search rules in
-    let fits : some ≤ length ys = search (rules, c.in-Bytes.ensures.count, c.get_some.auto.bytes) in
-    (search rules, search rules, search rules, subst (Consumes _ _) (front done (length xs - done) some xs ys within fits) (Consumes-trans _ _ _ _ _ c.loop-done.invariant.3 c.in-Bytes.ensures.bytes))
+    let fits : some ≤ length ys = search (rules, c.in_ok-some.ensures.bound, c.read_some.auto.bytes) in
+    (search rules, search rules, search rules, subst (Consumes _ _) (front done (length xs - done) some xs ys within fits) (Consumes-trans _ _ _ _ _ c.loop-done.invariant.3 c.in_ok-some.ensures.bytes.0))

@@ -21,18 +21,15 @@ unfolding read_process
 clear_read a run new i x r w e = e ∙ ap (clears a (get_or run 1 0) new) w
 
 pub loop-i-init : goal.loop-i-init
-loop-i-init c = (omega arith, below_none _)
-
-pub held-pair-requires : goal.held-pair-requires
-held-pair-requires c = (c.requires, omega arith)
+loop-i-init c = below_none _
 
 pub returns-then-not-clears : goal.returns-then-not-clears
 unfolding break_clears
 returns-then-not-clears c = below_stop _ buffer_slots c.loop-i.i _ (omega arith) (clear_read _ _ _ _ _ _ c.held-pair.ensures c.clears.ensures) (ap not c.if-not-clears.true)
 
 pub loop-i-preserved : goal.loop-i-preserved
-loop-i-preserved c = (omega arith, below_more _ c.loop-i.i _ c.loop-i.invariant.1 (clear_read _ _ _ _ _ _ c.held-pair.ensures c.clears.ensures) (ap not c.if-not-clears.false))
+loop-i-preserved c = below_more _ c.loop-i.i _ c.loop-i.invariant (clear_read _ _ _ _ _ _ c.held-pair.ensures c.clears.ensures) (ap not c.if-not-clears.false)
 
 pub returns : goal.returns
 unfolding break_clears
-returns c = below_done _ buffer_slots c.loop-i.i (omega arith) (omega arith) c.loop-i.invariant.1
+returns c = below_done _ buffer_slots c.loop-i.i (omega arith) (omega arith) c.loop-i.invariant

@@ -5,4 +5,4 @@ use Rattle.table.specs.Lift.{run_reads}
 use Rattle.table.proofs.breaks.clears.Goals as goal
 
 pub returns : goal.returns
-returns c = run_reads _ _ c.requires.1 (λ p. break_clears (areas_of c.args.areas) p c.args.new) _ c.buffers_clear.ensures
+returns c = run_reads _ _ c.requires.1 _ c.run_of.ensures.words (λ p. break_clears (areas_of c.args.areas) p c.args.new) _ c.buffers_clear.ensures

@@ -4,4 +4,4 @@ use Rattle.table.specs.Lift.{claim_turns}
 use Rattle.table.proofs.claims.set_latch.Goals as goal
 
 pub returns : goal.returns
-returns c = claim_turns c.args.table.now c.args.k c.requires.1 (with_latch c.args.value) _ _ c.claim_at-claim.ensures c.put_claim.ensures
+returns c = claim_turns c.args.table.now c.args.k c.requires.1 (with_latch c.args.value) _ _ c.claim_at.ensures c.put_claim.ensures

@@ -1,6 +1,5 @@
 -- What is read off the run is so of the process; the slot is that of the kind, the place and the number.
 use native.Mathlib.Omega.{arith}
-use borrow.Author.Rules.{rules}
 use Rattle.definition.specs.State.{held}
 use Rattle.laws.specs.Slots.{slot_bound}
 use Rattle.types.specs.Meaning.{kind_of}
@@ -8,7 +7,10 @@ use Rattle.table.specs.Lift.{run_reads}
 use Rattle.table.proofs.runs.held.Goals as goal
 
 pub held-requires : goal.held-requires
-held-requires c = (search rules, omega (arith, slot_bound (kind_of c.args.kind) _ _ c.requires.2 c.requires.3))
+held-requires c =
+    let slot = c.args.slot in
+    (c.run_of.ensures.size, omega (arith, c.slot_at.ensures, slot_bound (kind_of slot.kind) _ _ slot.place_within slot.number_within))
 
 pub returns : goal.returns
-returns c = run_reads _ _ c.requires.1 (λ p. held (kind_of c.args.kind) p c.args.place c.args.number) _ (rw (← c.slot_at-slot.ensures) c.held.ensures)
+returns c = let slot = c.args.slot in
+    run_reads _ _ c.requires.1 _ c.run_of.ensures.words (λ p. held (kind_of slot.kind) p slot.place slot.number) _ (rw (← c.slot_at.ensures) c.held.ensures)

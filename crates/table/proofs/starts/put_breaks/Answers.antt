@@ -1,23 +1,17 @@
-use mathlib.Core.Path.{refl, ap, ◌∙◌}
+use mathlib.Core.Path.{ap, ◌∙◌}
 use native.Mathlib.Omega.{arith}
-use lib.ListN.{length, length-set}
+use lib.ListN.{length}
 use Rattle.definition.specs.Image.{board_of}
 use Rattle.laws.specs.ImageBack.{image_length}
 use Rattle.table.specs.Starts.{running_first}
 use Rattle.table.proofs.StartLaws.{break_put, breaks_put}
 use Rattle.table.proofs.starts.put_breaks.Goals as goal
 
-pub loop-p-init : goal.loop-p-init
-loop-p-init c = (refl, omega arith, ap length c.requires.0 ∙ image_length (running_first 0 (board_of c.args.board.now)), c.requires.0)
-
 pub loop-p-preserved : goal.loop-p-preserved
-loop-p-preserved c =
-    let n = c.loop-p.invariant.0 in
-    (n, omega arith, simp length-set (omega arith), break_put c.args.board.now c.requires.1 _ c.loop-p.p _ (omega arith) c.loop-p.invariant.3 c.areas_at-areas.ensures)
+loop-p-preserved c = break_put c.args.board.words.now c.requires.1 _ c.loop-p.p _ (omega arith) c.loop-p.invariant c.areas-areas.ensures
 
-pub shape_of-table : goal.shape_of-table
-shape_of-table c = omega (arith, ap length c.requires.0 ∙ image_length (running_first 0 (board_of c.args.board.now)))
+pub bounds-table-p : goal.bounds-table-p
+bounds-table-p c = omega (arith, ap length c.requires.0 ∙ image_length (running_first 0 (board_of c.args.board.words.now)))
 
 pub returns : goal.returns
-returns c = let n = c.loop-p.invariant.0 in
-    c.loop-p.invariant.3 ∙ breaks_put c.args.board.now c.requires.1 c.loop-p.p (omega arith)
+returns c = c.loop-p.invariant ∙ breaks_put c.args.board.words.now c.requires.1 c.loop-p.p (omega arith)

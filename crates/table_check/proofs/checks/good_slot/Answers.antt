@@ -6,6 +6,6 @@ pub returns-then-has : goal.returns-then-has
 unfolding provided◌then◌else◌
 returns-then-has c = rw c.if-has.true c.holdable.ensures
 
-pub returns : goal.returns
+pub returns-else-has : goal.returns-else-has
 unfolding provided◌then◌else◌
-returns c = rw c.if-has.false c.is_null.ensures
+returns-else-has c = rw c.if-has.false c.is_null.ensures

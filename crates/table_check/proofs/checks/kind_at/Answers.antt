@@ -11,6 +11,6 @@ pub returns-then-i : goal.returns-then-i
 unfolding provided◌then◌else◌
 returns-then-i c = rw (le-ltb _ _ c.if-i-lt-KIND.false, lt-ltb _ _ c.if-i.true)
 
-pub returns : goal.returns
+pub returns-else-i : goal.returns-else-i
 unfolding provided◌then◌else◌
-returns c = rw (le-ltb _ _ c.if-i-lt-KIND.false, le-ltb _ _ c.if-i.false)
+returns-else-i c = rw (le-ltb _ _ c.if-i-lt-KIND.false, le-ltb _ _ c.if-i.false)

@@ -2,8 +2,8 @@
 use Rattle.table_check.proofs.SlotLaws.{slots_past, slots_read}
 use Rattle.table_check.proofs.checks.slots_in.Goals as goal
 
-pub returns-then-place-word : goal.returns-then-place-word
-returns-then-place-word c = slots_past c.args.table.now _ _ c.word.ensures _ c.if-place-word.true
+pub returns-else-place-drivers : goal.returns-else-place-drivers
+returns-else-place-drivers c = slots_past c.args.board.words.now _ _ _ c.drivers.ensures _ c.if-place-drivers.false
 
-pub returns : goal.returns
-returns c = slots_read c.args.table.now _ _ c.word.ensures _ c.if-place-word.false _ c.slots_at.ensures
+pub returns-then-place-drivers : goal.returns-then-place-drivers
+returns-then-place-drivers c = slots_read c.args.board.words.now _ _ _ c.drivers.ensures _ c.if-place-drivers.true _ c.slots.ensures

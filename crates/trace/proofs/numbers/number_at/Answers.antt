@@ -4,12 +4,5 @@ use Rattle.trace.proofs.NumberLaws as N
 use Rattle.trace.proofs.numbers.number_at.Goals as goal
 
 -- there is a byte at its place
-
 pub overflow_add-result : goal.overflow_add-result
-overflow_add-result c = omega (arith, N.single_inside _ _ c.args.at _ c.single_at.ensures c.in-Value.is)
-
-pub returns-in-Value : goal.returns-in-Value
-returns-in-Value c = N.single_value _ _ _ _ c.single_at.ensures c.in-Value.is
-
-pub returns-in-Other : goal.returns-in-Other
-returns-in-Other c = c.groups_at.ensures
+overflow_add-result c = omega (arith, N.single_inside _ _ c.args.at c.single_at.ensures c.in-Some.is)

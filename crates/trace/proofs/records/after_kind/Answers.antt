@@ -1,20 +1,28 @@
 -- Each answer is one law of what follows a kind, from what was filled and how many bytes follow.
-use mathlib.Core.Path.{sym, ap}
-use Rattle.trace.specs.Meaning.{record_found}
-use Rattle.trace.proofs.RecordLaws.{kind_on, kind_end, kind_record, kind_short}
+use mathlib.Core.Path.{◌∙◌}
+use Rattle.trace.proofs.NumberLaws.{passed_on}
+use Rattle.trace.proofs.RecordLaws.{few_fields, filled_by, kind_none, kind_end, kind_record, kind_short}
 use Rattle.trace.proofs.records.after_kind.Goals as goal
 
+pub fields_at-requires : goal.fields_at-requires
+fields_at-requires c = few_fields c.args.kind _ c.limits.ensures
+
+pub returns-in_err-from : goal.returns-in_err-from
+returns-in_err-from c =
+    let f = filled_by _ _ c.args.kind _ c.fields_at.new.out _ _ c.limits.ensures c.in_err-from.was c.fields_at.ensures in
+    passed_on _ _ c.from_residual.ensures.1 ∙ kind_none _ _ _ _ _ f
+
 pub overflow_sub-trace : goal.overflow_sub-trace
-overflow_sub-trace c = kind_end _ _ _ _ _ _ c.in-At.is c.requires.1 c.kind_fields_at.ensures c.bytes_after-bytes.ensures
-
-pub returns-in-Broken : goal.returns-in-Broken
-returns-in-Broken c = ap record_found (sym (kind_on _ _ _ _ c.in-Broken.is c.kind_fields_at.ensures))
-
-pub returns-in-Cut : goal.returns-in-Cut
-returns-in-Cut c = ap record_found (sym (kind_on _ _ _ _ c.in-Cut.is c.kind_fields_at.ensures))
+overflow_sub-trace c =
+    let f = filled_by _ _ c.args.kind _ c.fields_at.new.out _ _ c.limits.ensures c.in_ok-from.was c.fields_at.ensures in
+    kind_end _ _ c.args.kind _ _ _ c.requires f c.bytes_after-bytes.ensures
 
 pub returns-then-bytes-trace : goal.returns-then-bytes-trace
-returns-then-bytes-trace c = kind_record _ _ _ _ _ _ c.in-At.is c.requires.1 c.kind_fields_at.ensures c.bytes_after-bytes.ensures c.if-bytes-trace.true
+returns-then-bytes-trace c =
+    let f = filled_by _ _ c.args.kind _ c.fields_at.new.out _ _ c.limits.ensures c.in_ok-from.was c.fields_at.ensures in
+    kind_short _ _ c.args.kind _ _ _ c.requires f c.bytes_after-bytes.ensures c.if-bytes-trace.true
 
-pub returns-else-bytes-trace : goal.returns-else-bytes-trace
-returns-else-bytes-trace c = kind_short _ _ _ _ _ _ c.in-At.is c.requires.1 c.kind_fields_at.ensures c.bytes_after-bytes.ensures c.if-bytes-trace.false
+pub returns : goal.returns
+returns c =
+    let f = filled_by _ _ c.args.kind _ c.fields_at.new.out _ _ c.limits.ensures c.in_ok-from.was c.fields_at.ensures in
+    kind_record _ _ c.args.kind _ _ _ c.requires f c.bytes_after-bytes.ensures c.if-bytes-trace.false

@@ -1,23 +1,18 @@
 -- The words are read apart from what is lent, and put there only where the whole board was found.
 use native.Mathlib.Omega.{arith}
 use mathlib.Core.Path.{sym}
-use Rattle.trace.proofs.BoardLaws.{words_length, words_few, words_inside, boarded_read, boarded_broken, boarded_cut}
+use Rattle.trace.proofs.NumberLaws.{passed_on}
+use Rattle.trace.proofs.BoardLaws.{counted_so, words_length, words_inside, boarded_read, boarded_none}
 use Rattle.trace.proofs.records.board_at.Goals as goal
 
+pub returns-in_err-count : goal.returns-in_err-count
+returns-in_err-count c = boarded_none _ _ c.words_at.new.out _ (omega arith) _ _ _ (passed_on _ _ c.from_residual.ensures.1) c.in_err-count.was c.words_at.ensures
+
 pub slice_bounds-words-end : goal.slice_bounds-words-end
-slice_bounds-words-end c = words_inside _ _ c.words_at.new.out _ c.words_at.ensures c.in-Value.is
+slice_bounds-words-end c = words_inside _ _ c.words_at.new.out _ _ (counted_so _ _ c.words_at.new.out _ _ c.in_ok-count.was c.words_at.ensures)
 
 pub slice_bounds-put-end : goal.slice_bounds-put-end
-slice_bounds-put-end c = sym (words_length _ _ c.words_at.new.out _ c.words_at.ensures c.in-Value.is)
+slice_bounds-put-end c = sym (words_length _ _ c.words_at.new.out _ _ (counted_so _ _ c.words_at.new.out _ _ c.in_ok-count.was c.words_at.ensures))
 
-pub put-requires : goal.put-requires
-put-requires c = omega (arith, words_length _ _ c.words_at.new.out _ c.words_at.ensures c.in-Value.is, words_few _ _ c.words_at.new.out _ c.words_at.ensures c.in-Value.is)
-
-pub returns-in-Value : goal.returns-in-Value
-returns-in-Value c = boarded_read _ _ c.words_at.new.out _ c.words_at.ensures _ (omega arith) c.in-Value.is _ c.put.ensures
-
-pub returns-in-Broken : goal.returns-in-Broken
-returns-in-Broken c = boarded_broken _ _ c.words_at.new.out _ c.words_at.ensures _ (omega arith) c.in-Broken.is
-
-pub returns-in-Cut : goal.returns-in-Cut
-returns-in-Cut c = boarded_cut _ _ c.words_at.new.out _ c.words_at.ensures _ (omega arith) c.in-Cut.is
+pub returns : goal.returns
+returns c = boarded_read _ _ c.words_at.new.out _ (omega arith) _ _ (counted_so _ _ c.words_at.new.out _ _ c.in_ok-count.was c.words_at.ensures) _ c.put.ensures

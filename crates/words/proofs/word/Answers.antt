@@ -1,6 +1,0 @@
--- The index is below the length, and a 32-bit word fits.
-use native.Mathlib.Omega.{arith}
-use Rattle.words.proofs.word.Goals as goal
-
-pub overflow_cast-result : goal.overflow_cast-result
-overflow_cast-result c = omega (arith, c.shared_slice_known-1.given c.args.at)
