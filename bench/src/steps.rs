@@ -104,8 +104,10 @@ pub fn time() {
         let mut least = [[Duration::MAX; 3]; 2];
         for _ in 0..TURNS {
             for (job, least) in jobs.iter_mut().zip(&mut least) {
+                // first, since it leaves no lines, and those of the last run are looked at below
+                let checked = job.checked();
                 let (proved, plain) = job.both();
-                let times = [proved, plain, job.checked()];
+                let times = [proved, plain, checked];
                 *least = [0, 1, 2].map(|way| least[way].min(times[way]));
             }
         }

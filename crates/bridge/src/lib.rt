@@ -24,6 +24,7 @@ pub fn start(table: &mut [u32], board: &[u32]) -> Result<Answer, Refusal>
 }
 
 // A call of a process: its class, and its four registers.
+#[tactic(auto, using(crate::specs::Calls::called))]
 pub fn call(
     table: &mut [u32],
     memory: &mut [u8],
@@ -37,6 +38,7 @@ pub fn call(
 }
 
 // A driver's event for a process's subscribe slot, with three arguments.
+#[tactic(auto, using(crate::specs::Calls::evented))]
 pub fn event(
     table: &mut [u32],
     process: Process,
@@ -54,6 +56,7 @@ pub fn event(
 }
 
 // A process that waits is asked again.
+#[tactic(auto, using(crate::specs::Calls::resumed))]
 pub fn resume(table: &mut [u32], process: Process) -> Result<Answer, Refusal>
     ensures { (m f : List ℕ) → Called (own process.0 resume) (lent table.old m f) (given_of result) (lent table.new m f) }
 {
@@ -61,6 +64,7 @@ pub fn resume(table: &mut [u32], process: Process) -> Result<Answer, Refusal>
 }
 
 // A driver's bytes for a process's read-write buffer, from an offset in it on.
+#[tactic(auto, using(crate::specs::Calls::deposited))]
 pub fn deposit(
     table: &[u32],
     memory: &mut [u8],
@@ -95,6 +99,7 @@ pub fn fetch<'a>(
 }
 
 // Where those bytes lie; the number as above (`Locates`).
+#[tactic(auto, using(crate::specs::Calls::located))]
 pub fn fetch_place(
     table: &[u32],
     memory: &[u8],
@@ -129,6 +134,7 @@ pub fn fetch_answer(
 }
 
 // A shared driver's value: a signed peak.
+#[tactic(auto, using(crate::specs::Calls::latched, std::proofs::lemmas::Int::wraps))]
 pub fn latch(table: &mut [u32], driver: Driver, peak: i32) -> Result<Answer, Refusal>
     ensures { (m f : List ℕ) → Called (latch driver.0 (word_of peak)) (lent table.old m f) (given_of result) (lent table.new m f) }
 {
@@ -136,6 +142,7 @@ pub fn latch(table: &mut [u32], driver: Driver, peak: i32) -> Result<Answer, Ref
 }
 
 // The run over a trace from a place on, 0 for all of it; its lines go to the front of `out`.
+#[tactic(auto, using(crate::proofs::ReplayLaws::joins))]
 pub fn replay(
     trace: &[u8],
     at: usize,

@@ -15,7 +15,7 @@ use Rattle.laws.specs.Unchanged.{unchanged}
 use Rattle.types.specs.declared.Refusal.{Refusal}
 use Rattle.types.specs.Meaning.{refusal_of}
 use Rattle.layer.specs.declared.Place.{Place}
-use Rattle.layer.specs.Steps.{gave}
+use Rattle.layer.specs.Steps.{lent}
 use Rattle.layer.specs.Fetching.{image_of, handed, Finds}
 use Rattle.layer.specs.StatementLaws.{part_size}
 use Rattle.host.specs.Answers.{image_word, answer_words, place_words, told, tell, answered}
@@ -29,27 +29,26 @@ module _ (step : Lent → Out Lent) (x : Lent) (out : List ℕ) where
   told_nothing h = rw (lt-leb 6 (length out) h)
 
   -- it has
-  pub told_answer : (r : Answer) (x' : Lent) {words : List ℕ} → 6 ≤ length out → step x ≡ gave r x' → words ≡ answer_words r → tell step x out ≡ told true x' (words ++ drop 6 out)
+  pub told_answer : (x' : Lent) {words : List ℕ} → 6 ≤ length out → x' ≡ (step x).after → words ≡ answer_words (step x).answer → tell step x out ≡ told true x' (words ++ drop 6 out)
   unfolding tell provided◌then◌else◌
-  told_answer r x' h e w =
-      rw (le-leb 6 (length out) h) (ap₂ (λ (o : Out Lent) (l : List ℕ). told true o.after (l ++ drop 6 out)) e (ap (λ (o : Out Lent). answer_words o.answer) e ∙ sym w))
+  told_answer x' h e w = rw (le-leb 6 (length out) h) (ap₂ (λ (y : Lent) (l : List ℕ). told true y (l ++ drop 6 out)) (sym e) (sym w))
 
 -- ---- of a fetch
 
 found_words : (r : Answer) (m f : List ℕ) (x : Result Place Refusal) → Finds r m f x → place_words (refusal_of x) (handed x) ≡ answer_words r
 found_words r m f x h = ap (λ (k : ℕ). 11 ∷ refusal_of x ∷ image_word (image_of (handed x).image) ∷ (handed x).place ∷ k ∷ 0 ∷ []) (part_size (handed x) m f h.inside) ∙ sym (ap answer_words h.answer)
 
-module _ (p driver j offset n : ℕ) (x : Lent) (out : List ℕ) where
+module _ (p driver j offset n : ℕ) (t m f out : List ℕ) where
   abbrev asked : Step
   asked = own p (fetch driver j offset n)
 
   abbrev given : Answer
-  given = (table_step asked x).answer
+  given = (table_step asked (lent t m f)).answer
 
   -- a fetch leaves all as it was, and its answer is what was found
-  pub told_fetched : (r : Result Place Refusal) {words : List ℕ} → 6 ≤ length out → Finds given x.memory x.flash r → words ≡ place_words (refusal_of r) (handed r) → tell (table_step asked) x out ≡ told true x (words ++ drop 6 out)
+  pub told_fetched : (r : Result Place Refusal) {words : List ℕ} → 6 ≤ length out → Finds given m f r → words ≡ place_words (refusal_of r) (handed r) → tell (table_step asked) (lent t m f) out ≡ told true (lent t m f) (words ++ drop 6 out)
   told_fetched r h finds w =
-      told_answer (table_step asked) x out given x h (λ i. gave given (unchanged.tables asked x (ap changes_nothing finds.answer) i)) (w ∙ found_words given x.memory x.flash r finds)
+      told_answer (table_step asked) (lent t m f) out (lent t m f) h (sym (unchanged.tables asked (lent t m f) (ap changes_nothing finds.answer))) (w ∙ found_words given m f r finds)
 
 -- ---- of a held buffer
 

@@ -1,6 +1,6 @@
 // What a C or Rust host calls: the layer's steps on numbers and slices, where a held buffer lies, its run over a trace, and its sizes. Each takes any
-// They give a `bool`, and take each thing by itself, for C. That there is room for the words comes first in each: nothing may be done where there is none.
 // numbers and slices; a step says what it did in six words of a slice that the host lends, and the run in three.
+// They give a `bool`, and take each thing by itself, for C. That there is room for the words comes first in each: nothing may be done where there is none.
 #![tactic(auto)]
 
 ghost use Rattle.std.specs.Prelude.{◌≡◌, get_or};
@@ -48,6 +48,7 @@ pub fn mk_table_well_formed(table: &[u32]) -> bool
 }
 
 // Makes the table that of the fresh state of a board.
+#[tactic(auto, using(crate::proofs::WordLaws::told_nothing, crate::proofs::WordLaws::told_answer))]
 pub fn mk_start(table: &mut [u32], board: &[u32], out: &mut [u32]) -> bool
     ensures { WritesAlone (start board.now) table.old out.old result table.new out.new }
 {
@@ -60,6 +61,7 @@ pub fn mk_start(table: &mut [u32], board: &[u32], out: &mut [u32]) -> bool
 }
 
 // A call of a process: its class, and its four registers.
+#[tactic(auto, using(crate::proofs::WordLaws::told_nothing, crate::proofs::WordLaws::told_answer))]
 pub fn mk_call(
     table: &mut [u32],
     memory: &mut [u8],
@@ -83,6 +85,7 @@ pub fn mk_call(
 }
 
 // A driver's event for a process's subscribe slot, with three arguments.
+#[tactic(auto, using(crate::proofs::WordLaws::told_nothing, crate::proofs::WordLaws::told_answer))]
 pub fn mk_event(
     table: &mut [u32],
     process: u32,
@@ -112,6 +115,7 @@ pub fn mk_event(
 }
 
 // A process that waits is asked again.
+#[tactic(auto, using(crate::proofs::WordLaws::told_nothing, crate::proofs::WordLaws::told_answer))]
 pub fn mk_resume(table: &mut [u32], process: u32, out: &mut [u32]) -> bool
     ensures { WritesAlone (table_step (own process resume)) table.old out.old result table.new out.new }
 {
@@ -124,6 +128,7 @@ pub fn mk_resume(table: &mut [u32], process: u32, out: &mut [u32]) -> bool
 }
 
 // A driver's bytes for a process's read-write buffer, from an offset in it on.
+#[tactic(auto, using(crate::proofs::WordLaws::told_nothing, crate::proofs::WordLaws::told_answer))]
 pub fn mk_deposit(
     table: &[u32],
     memory: &mut [u8],
@@ -153,6 +158,7 @@ pub fn mk_deposit(
 }
 
 // Where the bytes of a process's read-only buffer lie, from an offset in it on: the host reads them there, and nothing is copied.
+#[tactic(auto, using(crate::proofs::WordLaws::told_nothing, crate::proofs::WordLaws::told_fetched))]
 pub fn mk_fetch(
     table: &[u32],
     memory: &[u8],
@@ -184,6 +190,7 @@ pub fn mk_fetch(
 }
 
 // A shared driver's value: a signed peak.
+#[tactic(auto, using(crate::proofs::WordLaws::told_nothing, crate::proofs::WordLaws::told_answer, std::proofs::lemmas::Int::wraps))]
 pub fn mk_latch(table: &mut [u32], driver: u32, peak: i32, out: &mut [u32]) -> bool
     ensures { WritesAlone (table_step (latch driver (word_of peak))) table.old out.old result table.new out.new }
 {
@@ -196,6 +203,7 @@ pub fn mk_latch(table: &mut [u32], driver: u32, peak: i32, out: &mut [u32]) -> b
 }
 
 // Where the buffer lies that a process holds in a slot of a driver. The class is that of the allow that lends it, 3 or 4.
+#[tactic(auto, using(crate::proofs::WordLaws::asked_nothing, crate::proofs::WordLaws::asked_answer))]
 pub fn mk_area(
     table: &[u32],
     process: u32,
@@ -216,6 +224,7 @@ pub fn mk_area(
 }
 
 // The run over a trace from a place on, 0 for all of it; its lines go to the front of `lines`.
+#[tactic(auto, using(crate::proofs::RunLaws::runs_nothing))]
 pub fn mk_replay(
     trace: &[u8],
     at: usize,

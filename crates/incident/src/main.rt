@@ -8,6 +8,7 @@
 
 #![tactic(auto)]
 
+use layer::Place;
 use std::io;
 use table::Table;
 use types::{Answer, Driver, Image, Process, Refusal, Registers};
@@ -23,8 +24,12 @@ fn print_answer(output: &impl Print, answer: Result<Answer, Refusal>) -> io::Res
     }
 }
 
-// The bytes of a fetch, as a line of document 01.
-fn print_part(output: &impl Print, bytes: &[u8]) -> io::Result<()> {
+// The bytes of a fetch or its number, as a line of document 01.
+fn print_fetched(output: &impl Print, fetched: Result<&[u8], u32>) -> io::Result<()> {
+    let bytes = match fetched {
+        Ok(bytes) => bytes,
+        Err(number) => return println!(output; "X {number}"),
+    };
     print!(output; "F {}", bytes.len())?;
     for byte in bytes {
         print!(output; " {byte}")?;
@@ -37,100 +42,78 @@ fn written(bytes: &[u8]) -> usize {
     bytes.iter().filter(|byte| **byte != 0).count()
 }
 
-// An allow of slot 0 of driver 1: class 3 is read-write, class 4 read-only.
-fn allow(
-    output: &impl Print,
-    table: &mut [u32],
-    memory: &mut [u8],
-    process: Process,
-    class: u8,
-    address: u32,
-    size: u32,
-) -> io::Result<()> {
-    let registers = Registers {
-        r0: 1,
-        r1: 0,
-        r2: address,
-        r3: size,
-    };
-    print_answer(
-        output,
-        bridge::call(table, memory, process, class, registers),
-    )
+// What the receiver's kernel keeps: the table, and the images of memory and flash. Each step names slot 0 of driver 1.
+#[derive(Drop)]
+struct Receiver {
+    table: [u32; Table::WORDS],
+    memory: [u8; Image::BYTES],
+    flash: [u8; Image::BYTES],
 }
 
-// A deposit into the read-write buffer of that slot.
-fn deposit(
-    output: &impl Print,
-    table: &[u32],
-    memory: &mut [u8],
-    process: Process,
-    offset: u32,
-    bytes: &[u8],
-) -> io::Result<()> {
-    print_answer(
-        output,
-        bridge::deposit(table, memory, process, Driver(1), 0, offset, bytes),
-    )
-}
-
-// A fetch of four bytes of its read-only buffer, which are read where they lie; the bridge tells its number in a word, 0 where it is accepted.
-fn fetch(
-    output: &impl Print,
-    table: &[u32],
-    memory: &[u8],
-    flash: &[u8],
-    process: Process,
-    offset: u32,
-) -> io::Result<()> {
-    let mut number = 0u32;
-    let part = bridge::fetch(
-        table,
-        memory,
-        flash,
-        process,
-        Driver(1),
-        0,
-        offset,
-        4,
-        &mut number,
-    );
-    if number == 0 {
-        print_part(output, part)
-    } else {
-        println!(output; "X {number}")
+impl Receiver {
+    // An allow: class 3 is read-write, class 4 read-only.
+    fn allow(
+        &mut self,
+        process: Process,
+        class: u8,
+        address: u32,
+        size: u32,
+    ) -> Result<Answer, Refusal> {
+        let registers = Registers {
+            r0: 1,
+            r1: 0,
+            r2: address,
+            r3: size,
+        };
+        bridge::call(&mut self.table, &mut self.memory, process, class, registers)
     }
-}
 
-// The same fetch, told by where those bytes lie.
-fn locate(
-    output: &impl Print,
-    table: &[u32],
-    memory: &[u8],
-    flash: &[u8],
-    process: Process,
-    offset: u32,
-) -> io::Result<()> {
-    let mut number = 0u32;
-    let part = bridge::fetch_place(
-        table,
-        memory,
-        flash,
-        process,
-        Driver(1),
-        0,
-        offset,
-        4,
-        &mut number,
-    );
-    let image = match part.image {
-        Image::Memory => "memory",
-        Image::Flash => "flash",
-    };
-    println!(output;
-        "in the {image} image from byte {}, with number {number}",
-        part.place
-    )
+    // A deposit into the read-write buffer.
+    fn deposit(&mut self, process: Process, offset: u32, bytes: &[u8]) -> Result<Answer, Refusal> {
+        bridge::deposit(
+            &self.table,
+            &mut self.memory,
+            process,
+            Driver(1),
+            0,
+            offset,
+            bytes,
+        )
+    }
+
+    // A fetch of four bytes of the read-only buffer, read where they lie; the bridge tells its number in a word, 0 where it is accepted.
+    fn fetch(&self, process: Process, offset: u32) -> Result<&[u8], u32> {
+        let mut number = 0u32;
+        let part = bridge::fetch(
+            &self.table,
+            &self.memory,
+            &self.flash,
+            process,
+            Driver(1),
+            0,
+            offset,
+            4,
+            &mut number,
+        );
+        if number == 0 { Ok(part) } else { Err(number) }
+    }
+
+    // The same fetch: its number, and where those bytes lie. The bridge tells both, whatever the fetch is.
+    fn locate(&self, process: Process, offset: u32) -> (u32, Place) {
+        let mut number = 0u32;
+        let part = bridge::fetch_place(
+            &self.table,
+            &self.memory,
+            &self.flash,
+            process,
+            Driver(1),
+            0,
+            offset,
+            4,
+            &mut number,
+        );
+        (number, part)
+    }
 }
 
 fn main(rt: HostRuntime) -> io::Result<()> {
@@ -163,13 +146,15 @@ fn main(rt: HostRuntime) -> io::Result<()> {
         0,
         1,
     ];
-    let mut table = [0u32; Table::WORDS];
-    let mut memory = [0u8; Image::BYTES];
-    let flash = [0u8; Image::BYTES];
+    let mut receiver = Receiver {
+        table: [0; Table::WORDS],
+        memory: [0; Image::BYTES],
+        flash: [0; Image::BYTES],
+    };
     let data = [71, 80, 83, 33];
     let output = rt.stdout();
 
-    print_answer(&output, bridge::start(&mut table, &board))?;
+    print_answer(&output, bridge::start(&mut receiver.table, &board))?;
 
     println!(&output;
         "a sum in 32 bits ends at {}",
@@ -177,47 +162,31 @@ fn main(rt: HostRuntime) -> io::Result<()> {
     )?;
 
     // Process 0 lends the wrapping buffer; a driver tries to fill it.
-    allow(
-        &output,
-        &mut table,
-        &mut memory,
-        Process(0),
-        3,
-        0xFFFF_FFFF,
-        2,
-    )?;
-    deposit(&output, &table, &mut memory, Process(0), 0, &data)?;
+    print_answer(&output, receiver.allow(Process(0), 3, 0xFFFF_FFFF, 2))?;
+    print_answer(&output, receiver.deposit(Process(0), 0, &data))?;
 
     // Process 1 lends 16 bytes at 0x20002100; a driver fills the last four, and then tries to go one byte past the end.
-    allow(
-        &output,
-        &mut table,
-        &mut memory,
-        Process(1),
-        3,
-        0x2000_2100,
-        16,
-    )?;
-    deposit(&output, &table, &mut memory, Process(1), 12, &data)?;
-    deposit(&output, &table, &mut memory, Process(1), 13, &data)?;
+    print_answer(&output, receiver.allow(Process(1), 3, 0x2000_2100, 16))?;
+    print_answer(&output, receiver.deposit(Process(1), 12, &data))?;
+    print_answer(&output, receiver.deposit(Process(1), 13, &data))?;
 
-    let inside = written(&memory[0x210C..0x2110]);
-    let all = written(&memory);
+    let inside = written(&receiver.memory[0x210C..0x2110]);
+    let all = written(&receiver.memory);
     println!(&output;
         "bytes written in the buffer's last four {inside}, in the whole image {all}"
     )?;
 
     // Process 1 lends the same 16 bytes read-only; a driver fetches the last four, which stand at 0x2000210C. Process 0 has lent nothing.
-    allow(
-        &output,
-        &mut table,
-        &mut memory,
-        Process(1),
-        4,
-        0x2000_2100,
-        16,
+    print_answer(&output, receiver.allow(Process(1), 4, 0x2000_2100, 16))?;
+    print_fetched(&output, receiver.fetch(Process(1), 12))?;
+    let (number, part) = receiver.locate(Process(1), 12);
+    let image = match part.image {
+        Image::Memory => "memory",
+        Image::Flash => "flash",
+    };
+    println!(&output;
+        "in the {image} image from byte {}, with number {number}",
+        part.place
     )?;
-    fetch(&output, &table, &memory, &flash, Process(1), 12)?;
-    locate(&output, &table, &memory, &flash, Process(1), 12)?;
-    fetch(&output, &table, &memory, &flash, Process(0), 0)
+    print_fetched(&output, receiver.fetch(Process(0), 0))
 }

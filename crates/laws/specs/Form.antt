@@ -1,5 +1,5 @@
 -- When words have the form of a table: a test of the words alone. With it, a table is well formed exactly if the state that it reads as is good.
-use Rattle.std.specs.Prelude.{ℕ, zero, suc, ◌+◌, ◌-◌, ◌*◌, ◌≤◌, ◌<◌, ◌≡◌, Bool, true, false, ◌&&◌, List, [], ◌∷◌, ◌++◌, length, drop, leb, ltb, eqb}
+use Rattle.std.specs.Prelude.{ℕ, zero, suc, ◌+◌, ◌-◌, ◌*◌, ◌≤◌, ◌<◌, ◌≡◌, Bool, true, ◌&&◌, List, [], ◌∷◌, ◌++◌, length, drop, leb, ltb, eqb}
 use Rattle.std.proofs.Math.Path.{refl, sym, ap₂}
 use Rattle.std.proofs.Common.{ap, ◌∙◌, arith, length-drop, take_all, leb-true, ltb-true, eqb-true, le-leb, lt-ltb, eq-eqb}
 use Rattle.std.proofs.Math.ListN.{get_or}
@@ -10,7 +10,7 @@ use Rattle.definition.specs.State.{null, no_upcall, Status, running, waiting, ex
 use Rattle.definition.specs.WellFormed.{good_state}
 use Rattle.definition.specs.Words.{part, grid}
 use Rattle.definition.specs.Image.{pair_words, read_pair, words_in_pair, upcall_words, read_upcall, words_in_upcall, claim_words, read_claim, words_in_claim, words_of_areas, words_of_driver, status_number, status_of, slots_from, queue_from, run_words, process_words, read_process, areas_from, drivers_from, claims_from, runs_from, table_words, board_words, image_of, run_of, state_of, well_formed}
-use Rattle.laws.specs.Facts.{both, and, each_holds, all_hold, below_at, at_below}
+use Rattle.laws.specs.Facts.{both, and, both_ways, each_holds, all_hold, below_at, at_below}
 use Rattle.laws.specs.Rows.{tab_length, part_all, part_length, part_part, words_at, words_part, grid_full}
 use Rattle.laws.specs.Codec.{pair_words_lem, upcall_words_lem, claim_words_lem, process_length, status_word, count_word, queue_part, Sized, no_process_lem}
 use Rattle.laws.specs.BoardWords.{areas_part, drivers_part, board_again}
@@ -198,14 +198,8 @@ image_form s g =
 
 -- ---- the two tests agree
 
--- two tests each of which holds where the other does are one
-same_test : (a b : Bool) → (a ≡ true → b ≡ true) → (b ≡ true → a ≡ true) → a ≡ b
-same_test true b f g = sym (f refl)
-same_test false true f g = g refl
-same_test false false f g = refl
-
 pub well_formed_by_form : (t : List ℕ) → (table_form t && good_state (state_of t)) ≡ well_formed t
-well_formed_by_form t = same_test _ _
+well_formed_by_form t = both_ways _ _
     (λ h. let (form, good) = both (table_form t) (good_state (state_of t)) h in
     ap well_formed (sym (table_again t (table_form_true t form))) ∙ image_well_formed (state_of t) good)
     (λ h. let good = well_formed_good t h in

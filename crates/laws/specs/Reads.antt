@@ -82,6 +82,10 @@ module _ (run : List ℕ) where
   unfolding read_process
   slot_read i h = sym (tab_at all_slots (λ i. read_pair run (slots_from + i * words_in_pair)) i null h)
 
+  pub break_read : (read_process run).break ≡ get_or run 1 0
+  unfolding read_process
+  break_read = refl
+
   pub queue_count : length (read_process run).queue ≡ get_or run 2 0
   unfolding read_process
   queue_count = tab_length (get_or run 2 0) (λ i. read_upcall run (queue_from + i * words_in_upcall))

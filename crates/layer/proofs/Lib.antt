@@ -1,3 +1,4 @@
+mod BeginLaws
 mod BreakLaws
 mod BufferLaws
 mod CommandLaws
@@ -14,4 +15,5 @@ mod RefusalLaws
 mod ReplayLaws
 mod StepLaws
 mod TurnLaws
+mod WordLaws
 mod YieldLaws

@@ -14,6 +14,7 @@ use Rattle.definition.specs.Area.{Area, area_of}
 use Rattle.definition.specs.World.{process_at}
 use Rattle.definition.specs.Image.{state_of, well_formed}
 use Rattle.definition.specs.Located.{refused, lies, has_buffer, question_rows, located, locate}
+use Rattle.laws.specs.Facts.{passed_on}
 use Rattle.laws.specs.Reads.{processes_so}
 use Rattle.std.specs.Prelude.{Result, IsErrAnd}
 use Rattle.types.specs.Meaning.{kind_of, number_of}
@@ -23,7 +24,7 @@ use Rattle.types.specs.declared.Refusal.{Refusal}
 use Rattle.layer.specs.Steps.{named_refusal}
 use Rattle.layer.specs.declared.Buffer.{Buffer}
 use Rattle.layer.specs.Asking.{located_of}
-use Rattle.layer.proofs.RefusalLaws.{some_number, passed}
+use Rattle.types.specs.Refusals.{some_number}
 
 -- ---- rows 7 and 8 after row 3; a subscribe slot holds no buffer
 
@@ -83,7 +84,7 @@ module _ (t : List ℕ) (kind : Kind) (p driver j : ℕ) where
 
   pub asked_refused : (r : Result Buffer Refusal) (e : Refusal) → IsErrAnd r (λ y. y ≡ e) → number_of e ≡ rows → located_of r ≡ located kind p driver j (state_of t)
   unfolding located provided◌then◌else◌
-  asked_refused r e same h = rw (passed r e same, sym h, ne_eqb (number_of e) 0 (some_number e))
+  asked_refused r e same h = rw (passed_on r e same, sym h, ne_eqb (number_of e) 0 (some_number e))
 
   pub asked_told : 0 ≡ rows → (y : Pair) (area : Area) → y ≡ held kind (process_at (state_of t) p) (place_of (state_of t).board.drivers driver) j → area ≡ area_of (areas_at (state_of t).board p) (process_at (state_of t) p).break y
       → lies area y ≡ located kind p driver j (state_of t)

@@ -1,12 +1,10 @@
 -- What the statements about one record say, they say of one outcome: what is told, what is lent afterwards, and every byte of the buffer. A whole turn
 -- (`Turned`) is told by what the rest of the run then gives, which is one by that of the run.
 use Rattle.std.specs.Prelude.{ℕ, ◌≡◌, refl, List, Option, Some, None}
-use Rattle.std.proofs.Common.{sym, ap, ap₂, ◌∙◌}
+use Rattle.std.proofs.Common.{sym, ap, ◌∙◌}
 use Rattle.definition.specs.World.{Step}
 use Rattle.definition.specs.Table.{Lent}
 use Rattle.laws.specs.Facts.{clash}
-use Rattle.layer.specs.declared.replays.Turn.{Turn}
-use Rattle.layer.specs.declared.replays.Turn.TheVariants as T
 use Rattle.definition.specs.Board.{Kind}
 use Rattle.types.specs.declared.Slot.{Slot}
 use Rattle.types.specs.declared.Pair.{Pair}
@@ -20,23 +18,16 @@ pub one_line : (s : Step) (x : Lent) (used : ℕ) (old : List ℕ) {end end' : �
 one_line s x used old p q = (p.line.place ∙ sym q.line.place, p.lent ∙ sym q.lent, p.line.left ∙ sym q.line.left)
 
 -- it is made, or there is no room for its line: never both
-pub one_acted : (s : Step) (x : Lent) (j used : ℕ) (old : List ℕ) (r r' : Turn) {y y' : Lent} {a a' : List ℕ} → Acted s x j used old r y a → Acted s x j used old r' y' a'
+pub one_acted : (s : Step) (x : Lent) (used : ℕ) (old : List ℕ) (r r' : Option ℕ) {y y' : Lent} {a a' : List ℕ} → Acted s x used old r y a → Acted s x used old r' y' a'
     → (r ≡ r') × (y ≡ y') × (a ≡ a')
 unfolding Acted
-one_acted s x j used old (T.On k end) (T.On k' end') p q = let e = one_line s x used old p.1 q.1 in (ap₂ T.On (p.0 ∙ sym q.0) e.0, e.1, e.2)
-one_acted s x j used old (T.On k end) (T.Ended end') p q = absurd q
-one_acted s x j used old (T.On k end) T.Full p q = clash p.1.room q.1
-one_acted s x j used old (T.Ended end) r' p q = absurd p
-one_acted s x j used old T.Full (T.On k' end') p q = clash q.1.room p.1
-one_acted s x j used old T.Full (T.Ended end') p q = absurd q
-one_acted s x j used old T.Full T.Full p q = (refl, p.0.0 ∙ sym q.0.0, p.0.1 ∙ sym q.0.1)
+one_acted s x used old (Some end) (Some end') p q = let e = one_line s x used old p q in (ap Some e.0, e.1, e.2)
+one_acted s x used old (Some end) None p q = clash p.room q.1
+one_acted s x used old None (Some end') p q = clash q.room p.1
+one_acted s x used old None None p q = (refl, p.0.0 ∙ sym q.0.0, p.0.1 ∙ sym q.0.1)
 
 pub one_fetch_told : (s : Step) (x : Lent) (used : ℕ) (old : List ℕ) (r r' : Option ℕ) {a a' : List ℕ} → FetchTold s x used old r a → FetchTold s x used old r' a' → (r ≡ r') × (a ≡ a')
-unfolding FetchTold
-one_fetch_told s x used old (Some end) (Some end') p q = let e = one_line s x used old p q in (ap Some e.0, e.2)
-one_fetch_told s x used old (Some end) None p q = clash p.room q.1
-one_fetch_told s x used old None (Some end') p q = clash q.room p.1
-one_fetch_told s x used old None None p q = (refl, p.0 ∙ sym q.0)
+one_fetch_told s x used old r r' p q = let e = one_acted s x used old r r' p q in (e.0, e.2)
 
 -- ---- what a refusal's look-up gives
 

@@ -9,10 +9,11 @@ ghost use Rattle.types.specs.Meaning.{kind_of, pair_of, area_named};
 ghost use Rattle.table.specs.Tables.{Holds};
 ghost use Rattle.layer.specs.Asking.{located_of};
 
-use super::{Buffer, refusals};
+use super::Buffer;
+use super::refusals::{self, SlotName};
 use board::buffers;
 use table::runs;
-use types::{Area, Driver, Kind, Pair, Process, Refusal};
+use types::{Area, Pair, Process, Refusal};
 
 // Where a pair lies that a process holds.
 #[tactic(auto, using(crate::proofs::BufferLaws::lies_so, crate::proofs::ReadLaws::areas_here))]
@@ -26,18 +27,12 @@ pub(crate) fn area_of(table: &[u32], process: Process, pair: Pair) -> Area
 }
 
 // The answer to a host that asks where a held buffer lies.
-pub(crate) fn locate(
-    table: &[u32],
-    process: Process,
-    kind: Kind,
-    driver: Driver,
-    slot: u32,
-) -> Result<Buffer, Refusal>
+pub(crate) fn locate(table: &[u32], name: SlotName) -> Result<Buffer, Refusal>
     requires { Holds table.now }
-    ensures { located_of result ≡ located (kind_of kind) process.0 driver.0 slot (state_of table.now) }
+    ensures { located_of result ≡ located (kind_of name.kind) name.process.0 name.driver.0 name.number (state_of table.now) }
 {
-    let named = refusals::question(table, process, kind, driver, slot)?;
-    let pair = runs::held(table, process, named);
-    let area = area_of(table, process, pair);
+    let slot = refusals::question(table, name)?;
+    let pair = runs::held(table, name.process, slot);
+    let area = area_of(table, name.process, pair);
     Ok(Buffer { area, pair })
 }

@@ -23,6 +23,7 @@ mod replays;
 mod steps;
 mod work;
 
+use refusals::SlotName;
 use replays::Lent;
 use table::starts;
 use table_check::checks;
@@ -44,7 +45,8 @@ pub struct Buffer {
 }
 
 // How far a run over a trace has come: it has ended, with so many bytes written; or it has paused for want of room before what stands at a
-// place of the trace, with so many bytes written, all of them whole lines. Both cases carry what was written, so it is no Option or Result.
+// place of the trace, with so many bytes written, all of them whole lines. Both cases carry what was written, so it is no Option or Result; a struct of that
+// and of a place or none would be matched on as well.
 #[derive(Clone, Copy)]
 pub enum Progress {
     Ended(usize),
@@ -207,7 +209,13 @@ pub fn area(
     if !checks::well_formed(table) {
         return Err(Refusal::NoTable);
     }
-    buffers::locate(table, process, kind, driver, slot)
+    let name = SlotName {
+        process,
+        kind,
+        driver,
+        number: slot,
+    };
+    buffers::locate(table, name)
 }
 
 // The run over a trace from a place on: 0 for all of it, or the place at which it has paused, with the table and the images as it left them.

@@ -1,13 +1,14 @@
 // The run over a trace: each record's step on what the last one left, and its line, while there is room for one.
 // The table is not looked at again: whether it is well formed is known once, and no step changes that.
 ghost use Rattle.std.specs.Prelude.{◌≡◌, ◌+◌, ◌≤◌, ◌<◌, [], length, get_or, take};
-ghost use Rattle.definition.specs.Lines.{short_line};
+ghost use Rattle.definition.specs.Lines.{line_of, short_line};
 ghost use Rattle.definition.specs.Image.{well_formed};
 ghost use Rattle.definition.specs.Table.{table_step};
 ghost use Rattle.definition.specs.Trace.{found, max_class, step_of};
 ghost use Rattle.definition.specs.Replay.{left, following, play_from, play_board};
 ghost use Rattle.types.specs.Meaning.{given_of};
 ghost use Rattle.trace.specs.Meaning.{told_of};
+ghost use Rattle.lines.specs.Puts.{Put};
 ghost use Rattle.layer.specs.Steps.{lent, gave};
 ghost use Rattle.layer.specs.Replaying.{Leaves, Plays, room_at, Turned, Acted, FetchTold, ReadIn, step_by};
 
@@ -18,16 +19,16 @@ use trace::reader;
 use trace::records::{Board, Record, RecordKind, board_at};
 use types::{Answer, Driver, Process, Refusal, Registers};
 
-// What became of a record: the run goes on at the next one, with its lines' new end; it has ended there; or there is no room for a line. Two of the three
-// carry something, so no Option or Result says it.
-#[derive(Clone, Copy)]
-enum Turn {
-    On(usize, usize),
-    Ended(usize),
-    Full,
+// The line of what a step gave.
+fn put_given(out: &mut [u8], at: usize, given: Result<Answer, Refusal>) -> usize
+    requires { at + short_line ≤ length out.old }
+    ensures { Put (line_of (given_of given)) at out.old out.new result }
+{
+    lines::put_answer(out, at, given.map_err(u32::from))
 }
 
-// What a run works on, and whether its table is well formed, which no step changes.
+// What a run works on, and whether its table is well formed, which no step changes. The trace and the lines go beside it, each with a place: the slices are
+// the caller's, and the places are what each record moves.
 #[derive(Drop)]
 pub(crate) struct Lent<'a> {
     pub(crate) table: &'a mut [u32],
@@ -96,7 +97,7 @@ impl<'a> Lent<'a> {
         );
         let place = match fetched {
             Ok(place) => place,
-            Err(refusal) => return Some(lines::put_answer(out, used, Err(refusal))),
+            Err(refusal) => return Some(put_given(out, used, Err(refusal))),
         };
         let part = fetches::part(self.memory, self.flash, place);
         if !lines::part_fits(out.len() - used, part.len()) {
@@ -105,13 +106,12 @@ impl<'a> Lent<'a> {
         Some(lines::put_part(out, used, part))
     }
 
-    // A record that was read: its bytes go on to a deposit as a part of the trace.
-    fn act(&mut self, trace: &[u8], read: Record, out: &mut [u8], used: usize) -> Turn
+    // A record that was read: where its line ends, if there is room for it. Its bytes go on to a deposit as a part of the trace.
+    fn act(&mut self, trace: &[u8], read: Record, out: &mut [u8], used: usize) -> Option<usize>
         requires { (used + short_line ≤ length out.old) × ReadIn trace.now read }
-        ensures acted { Acted (step_of (told_of trace.now read)) (lent_in self.old) read.next used out.old result (lent_in self.new) out.new }
+        ensures acted { Acted (step_of (told_of trace.now read)) (lent_in self.old) used out.old result (lent_in self.new) out.new }
         ensures same { kept self.new ≡ kept self.old }
     {
-        let next = read.next;
         let [first, second, third, fourth, fifth, sixth] = read.fields;
         let given = match read.kind {
             RecordKind::Call => self.call(read.fields),
@@ -126,13 +126,8 @@ impl<'a> Lent<'a> {
                 sixth,
             ),
             RecordKind::Resume => steps::resume(self.table, self.formed, Process(first)),
-            RecordKind::Deposit => self.deposit(read.fields, &trace[read.from..next]),
-            RecordKind::Fetch => {
-                return match self.put_fetch(read.fields, out, used) {
-                    Some(end) => Turn::On(next, end),
-                    None => Turn::Full,
-                };
-            }
+            RecordKind::Deposit => self.deposit(read.fields, &trace[read.from..read.next]),
+            RecordKind::Fetch => return self.put_fetch(read.fields, out, used),
             RecordKind::Latch => {
                 steps::latch(
                     self.table,
@@ -142,22 +137,32 @@ impl<'a> Lent<'a> {
                 )
             }
         };
-        Turn::On(next, lines::put_answer(out, used, given))
+        Some(put_given(out, used, given))
     }
 
-    // The record at a place: every line but a part's fits where there is room for one.
+    // The record at a place: where the next one stands and the lines end, or how far the run has come, if it stops here. Every line but a part's fits
+    // where there is room for one.
     #[tactic(auto, using(crate::proofs::TurnLaws::turned_full))]
-    fn take_turn(&mut self, trace: &[u8], at: usize, out: &mut [u8], used: usize) -> Turn
+    fn take_turn(
+        &mut self,
+        trace: &[u8],
+        at: usize,
+        out: &mut [u8],
+        used: usize,
+    ) -> Result<(usize, usize), Progress>
         requires { (at < length trace.now) × (used ≤ length out.old) }
         ensures turned { Turned trace.now (lent_in self.old) at used out.old result (lent_in self.new) out.new }
         ensures same { kept self.new ≡ kept self.old }
     {
         if out.len() - used < Line::ROOM {
-            return Turn::Full;
+            return Err(Progress::Paused(at, used));
         }
-        match reader::next_at(trace, at) {
-            Ok(read) => self.act(trace, read, out, used),
-            Err(_) => Turn::Ended(lines::put_broken(out, used, at)),
+        let Ok(read) = reader::next_at(trace, at) else {
+            return Err(Progress::Ended(lines::put_broken(out, used, at)));
+        };
+        match self.act(trace, read, out, used) {
+            Some(end) => Ok((read.next, end)),
+            None => Err(Progress::Paused(at, used)),
         }
     }
 
@@ -178,12 +183,8 @@ impl<'a> Lent<'a> {
         // No index is counted: a record says where the next one stands.
         while i < trace.len() {
             match self.take_turn(trace, i, out, used) {
-                Turn::On(next, end) => {
-                    i = next;
-                    used = end;
-                }
-                Turn::Ended(end) => return Progress::Ended(end),
-                Turn::Full => return Progress::Paused(i, used),
+                Ok((next, end)) => (i, used) = (next, end),
+                Err(progress) => return progress,
             }
         }
         Progress::Ended(used)
@@ -206,7 +207,7 @@ fn start_on(
     ensures { Leaves (play_board trace.now (lent table.old memory.old flash.now) (left (length out.old)) (found board.now next)) out.old result (lent table.new memory.new flash.now) out.new }
 {
     let given = super::start(table, board);
-    let used = lines::put_answer(out, 0, given);
+    let used = put_given(out, 0, given);
     let formed = match given {
         Ok(_) => true,
         Err(refusal) if refusal == Refusal::NoBoard => return Progress::Ended(used),
@@ -222,7 +223,7 @@ fn start_on(
 }
 
 // The whole trace, from its board on.
-#[tactic(auto, using(crate::proofs::ReplayLaws::none_told, crate::proofs::ReplayLaws::none_lent, crate::proofs::ReplayLaws::none_lines))]
+#[tactic(auto, using(crate::proofs::BeginLaws::none_told, crate::proofs::BeginLaws::none_lent, crate::proofs::BeginLaws::none_lines))]
 pub(crate) fn begin(
     trace: &[u8],
     table: &mut [u32],

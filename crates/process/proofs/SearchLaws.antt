@@ -5,11 +5,10 @@ use mathlib.Core.Bool.{Bool, true, false}
 use mathlib.Core.List.{List, [], ◌∷◌, ◌++◌, append_assoc}
 use native.Mathlib.Nat.{zero-add, add_assoc}
 use native.Mathlib.Omega.{arith}
-use native.Mathlib.Decide.{ℕ_discrete}
 use lib.ListN.{length, take, drop, get_or, set, length-append}
 use lib.Seq.{length-take-le, take-add, drop-drop, get_or-drop}
 use borrow.Rule.Slice.PartMut.{mid_of, put_mid}
-use Rattle.std.specs.Prelude.{Option, Some, None, IfSome}
+use Rattle.std.specs.Prelude.{Option, Some, None, IfSome, MatchOption}
 use Rattle.definition.specs.Tests.{provided◌then◌else◌}
 use Rattle.definition.specs.State.{Upcall, no_upcall, with_queue}
 use Rattle.definition.specs.Words.{part, grid}
@@ -36,18 +35,20 @@ upcalls_length n t = tab_length n (λ m. read_upcall t (m * words_in_upcall))
 
 -- ---- the search
 
-module _ (f : Upcall → Bool) (t : List ℕ) (n i : ℕ) (h : NoneBelow i f (upcalls_in n t)) where
-  pub none_further : (r : Bool) → i < n → r ≡ f (read_upcall t (i * words_in_upcall)) → r ≡ false → NoneBelow (i + 1) f (upcalls_in n t)
-  none_further r g e q m b = elim (ℕ_discrete m i) [
-    | yes s ↦ ap (λ (k : ℕ). f (get_or (upcalls_in n t) k no_upcall)) s ∙ ap f (tab_at n _ i no_upcall g) ∙ sym e ∙ q
-    | no s ↦ h m (omega arith)
-  ]
+-- the first row that passes, as the search tells it
+module _ (f : Upcall → Bool) (t : List ℕ) (n : ℕ) where
+  abbrev passes : ℕ → Bool
+  passes k = f (read_upcall t (k * words_in_upcall))
 
-  pub found : (r : Bool) → i < n → r ≡ f (read_upcall t (i * words_in_upcall)) → r ≡ true → Some i ≡ first_match f (upcalls_in n t)
-  found r g e q = first_only f (upcalls_in n t) (Some i) (omega (arith, upcalls_length n t), ap f (tab_at n _ i no_upcall g) ∙ sym e ∙ q, h)
+  in_queue : (k : ℕ) → k < n → f (get_or (upcalls_in n t) k no_upcall) ≡ passes k
+  in_queue k h = ap f (tab_at n _ k no_upcall h)
 
-  pub found_none : n ≤ i → None ≡ first_match f (upcalls_in n t)
-  found_none g = first_only f (upcalls_in n t) None (λ m b. h m (omega (arith, upcalls_length n t)))
+  pub searched : (r : Option ℕ) → MatchOption r ((k : ℕ) → 0 ≤ k → k < n → passes k ≡ false) (λ i. (0 ≤ i) × (i < n) × (passes i ≡ true) × ((k : ℕ) → 0 ≤ k → k < i → passes k ≡ false))
+      → (r ≡ first_match f (upcalls_in n t)) × IfSome r (λ i. i < n)
+  searched (Some i) (z, h, e, none) = (first_only f (upcalls_in n t) (Some i) (omega (arith, upcalls_length n t), in_queue i h ∙ e, λ m b. in_queue m (omega arith) ∙ none m (omega arith) b), h)
+  searched None none =
+      let inside = upcalls_length n t in
+      (first_only f (upcalls_in n t) None (λ m b. in_queue m (omega (arith, inside)) ∙ none m (omega arith) (omega (arith, inside))), tt)
 
 -- a place that is found is one of the rows
 pub some_within : (n : ℕ) {r : Option ℕ} {i : ℕ} → r ≡ Some i → IfSome r (λ k. k < n) → i < n

@@ -9,7 +9,7 @@ use Rattle.definition.specs.Board.{Areas, Kind, subscribe, read_write, read_only
 use Rattle.definition.specs.State.{Pair, null, Upcall, Process, held, slot_at}
 use Rattle.definition.specs.Area.{area_of, holdable, accepts, clears, break_clears}
 use Rattle.definition.specs.Without.{areas_without}
-use Rattle.laws.specs.Facts.{below_at, at_below}
+use Rattle.laws.specs.Facts.{both_ways, below_at, at_below}
 use Rattle.promises.specs.TakenOut.{down, up, up_apart, down_up, up_below, down_below}
 
 -- a queued upcall, when place k is taken out
@@ -45,11 +45,6 @@ buffer i h = elim (dec_lt i kind_slots) [
   | no l ↦ record { kind = read_only; place = (i - kind_slots) / max_slots; number = i % max_slots; low = omega arith; small = omega arith; here = omega arith; there = λ p j hp hj. (kind_slots + p * max_slots + j, omega arith, omega arith) }
 ]
 
-same_tests : (s t : Bool) → (s ≡ true → t ≡ true) → (t ≡ true → s ≡ true) → s ≡ t
-same_tests true t f g = sym (f refl)
-same_tests false true f g = g refl
-same_tests false false f g = refl
-
 -- a test that (0, 0) passes holds of all buffers of the one record exactly if it holds of all of the other
 module _ (k : ℕ) (hk : k < max_drivers) (process process' : Process) (r : Beside k process process') (f : Pair → Bool) (none : f null ≡ true) where
   abbrev Passes : Process → ℕ → Type 0
@@ -81,7 +76,7 @@ module _ (k : ℕ) (hk : k < max_drivers) (process process' : Process) (r : Besi
       x = buffer i h
 
   buffers_same : every_below buffer_slots (λ i. f (get_or process.slots (kind_slots + i) null)) ≡ every_below buffer_slots (λ i. f (get_or process'.slots (kind_slots + i) null))
-  buffers_same = same_tests _ _ (λ e. at_below buffer_slots _ (passes_to (below_at buffer_slots _ e))) (λ e. at_below buffer_slots _ (passes_from (below_at buffer_slots _ e)))
+  buffers_same = both_ways _ _ (λ e. at_below buffer_slots _ (passes_to (below_at buffer_slots _ e))) (λ e. at_below buffer_slots _ (passes_from (below_at buffer_slots _ e)))
 
 -- ---- what a call may put into a slot, and where the break may move
 

@@ -1,7 +1,7 @@
 -- What a contract says by a relation, it says of one outcome: for the same inputs no other answer, and no other words or bytes, meet it. So a wrong answer
 -- of an inner function is refuted by its own statement, too. A contract that is an equation needs no more; relations with a type that only its crate knows have
 -- their theorem there (`OneReading` in `trace`, `OneTurn` in `layer`).
-use Rattle.std.specs.Prelude.{ℕ, ◌^◌, ◌<◌, ◌≡◌, refl, Bool, true, false, List, [], ◌∷◌, ◌++◌, length, drop, get_or, leb, ltb, Option, Some, None, Result, Ok, Err}
+use Rattle.std.specs.Prelude.{ℕ, ◌^◌, ◌<◌, ◌≡◌, refl, Bool, true, false, List, [], ◌++◌, length, drop, leb, ltb, Option, Some, None, Result, Ok, Err}
 use Rattle.std.proofs.Common.{sym, ap, ◌∙◌, arith, ltb-true, ltb-false}
 use Rattle.std.specs.Borrow.{Bor}
 use Rattle.definition.specs.Tests.{provided◌then◌else◌}
@@ -17,8 +17,8 @@ use Rattle.laws.specs.Facts.{never}
 use Rattle.types.specs.declared.Image.{Image as Named}
 use Rattle.types.specs.declared.Image.TheVariants as names
 use Rattle.types.specs.declared.Refusal.{Refusal}
-use Rattle.types.specs.declared.Refusal.TheVariants as refuses
 use Rattle.types.specs.Meaning.{refusal_of}
+use Rattle.types.specs.Refusals.{some_number, one_refusal}
 use Rattle.calls.specs.Moves.{LeadsTo}
 use Rattle.trace.specs.Meaning.{Counted, board_told, words_after, Boarded}
 use Rattle.trace.specs.declared.numbers.ReadError.{ReadError}
@@ -121,37 +121,14 @@ pub one_part : {x : Part} {m f r r' : Bor (List ℕ)} → IsPart x m f r → IsP
 one_part a b = (a.bytes ∙ sym b.bytes, a.place ∙ sym b.place)
 
 -- each refusal has a number of its own, and what is accepted has none of them
-abbrev why : {A : Type 0} → Result A Refusal → Option Refusal
-why (Ok x) = None
-why (Err e) = Some e
-
-abbrev by_number : List (Option Refusal)
-by_number =
-    None ∷ Some refuses.NoImage ∷ Some refuses.NoTable ∷ Some refuses.NoProcess ∷ Some refuses.ProcessExited ∷ Some refuses.ProcessWaits ∷ Some refuses.ProcessRuns
-    ∷ Some refuses.NoDriver ∷ Some refuses.NoSlot ∷ Some refuses.PastTheBuffer ∷ Some refuses.QueueFull ∷ Some refuses.NullUpcall ∷ Some refuses.NotShared
-    ∷ Some refuses.NoBoard ∷ []
-
-numbered : {A : Type 0} (x : Result A Refusal) → get_or by_number (refusal_of x) None ≡ why x
-numbered (Ok x) = refl
-numbered (Err refuses.NoImage) = refl
-numbered (Err refuses.NoTable) = refl
-numbered (Err refuses.NoProcess) = refl
-numbered (Err refuses.ProcessExited) = refl
-numbered (Err refuses.ProcessWaits) = refl
-numbered (Err refuses.ProcessRuns) = refl
-numbered (Err refuses.NoDriver) = refl
-numbered (Err refuses.NoSlot) = refl
-numbered (Err refuses.PastTheBuffer) = refl
-numbered (Err refuses.QueueFull) = refl
-numbered (Err refuses.NullUpcall) = refl
-numbered (Err refuses.NotShared) = refl
-numbered (Err refuses.NoBoard) = refl
-
-one_refusal : {A : Type 0} (x x' : Result A Refusal) → refusal_of x ≡ refusal_of x' → why x ≡ why x'
-one_refusal x x' e = sym (numbered x) ∙ ap (λ n. get_or by_number n None) e ∙ numbered x'
+same_outcome : (x x' : Result Place Refusal) → refusal_of x ≡ refusal_of x' → handed x ≡ handed x' → x ≡ x'
+same_outcome (Ok y) (Ok y') e h = ap Ok h
+same_outcome (Ok y) (Err k) e h = absurd (some_number k (sym e))
+same_outcome (Err k) (Ok y) e h = absurd (some_number k e)
+same_outcome (Err k) (Err k') e h = ap Err (one_refusal k k' e)
 
 pub one_found : {r : Answer} {m f : List ℕ} {x x' : Result Place Refusal} → Finds r m f x → Finds r m f x' → x ≡ x'
-one_found {r} {m} {f} {x} {x'} a b = by x x' (one_refusal x x' (ap number_of e)) (same_place (same_name _ _ (ap (λ p. p.image) p)) (ap (λ p. p.place) p) size)
+one_found {r} {m} {f} {x} {x'} a b = same_outcome x x' (ap number_of e) (same_place (same_name _ _ (ap (λ p. p.image) p)) (ap (λ p. p.place) p) size)
   where
     e : fetched (refusal_of x) (part_at (handed x) m f) ≡ fetched (refusal_of x') (part_at (handed x') m f)
     e = sym a.answer ∙ b.answer
@@ -161,12 +138,6 @@ one_found {r} {m} {f} {x} {x'} a b = by x x' (one_refusal x x' (ap number_of e))
 
     size : (handed x).length ≡ (handed x').length
     size = part_size (handed x) m f a.inside ∙ ap (λ p. length p.bytes) p ∙ sym (part_size (handed x') m f b.inside)
-
-    by : (x x' : Result Place Refusal) → why x ≡ why x' → handed x ≡ handed x' → x ≡ x'
-    by (Ok y) (Ok y') w h = ap Ok h
-    by (Ok y) (Err k) w h = never (cc)
-    by (Err k) (Ok y) w h = never (cc)
-    by (Err k) (Err k') w h = ap Err (cc)
 
 -- ---- a run over a trace: how far it came, and every word and byte
 

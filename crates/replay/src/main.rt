@@ -20,46 +20,58 @@ const MAX_TRACE: usize = 65536;
 // Room for the longest line, that of a fetch of a whole image, so that each turn comes further.
 const ROOM: usize = 4 * Image::BYTES + Line::ROOM;
 
-// Lines from a place of the trace on; the place to go on from, where there are more.
-fn write_lines<W: Write>(
-    output: &mut W,
-    trace: &[u8],
-    at: usize,
-    table: &mut [u32],
-    memory: &mut [u8],
-    flash: &[u8],
-) -> io::Result<Option<usize>>
-    ensures { IfOk result (λ more. IfSome more (λ next. (at < next) × (next ≤ length trace.now))) }
-{
-    let mut lines = [0u8; ROOM];
-    let (more, written) = match layer::replay(trace, at, table, memory, flash, &mut lines) {
-        Progress::Ended(n) => (None, &lines[..n]),
-        Progress::Paused(next, n) => (Some(next), &lines[..n]),
-    };
-    streams::put(output, written)?;
-    Ok(more)
+// What the layer is lent: the table, and the images of memory and flash.
+#[derive(Drop)]
+struct Lent {
+    table: [u32; Table::WORDS],
+    memory: [u8; Image::BYTES],
+    flash: [u8; Image::BYTES],
 }
 
-// All lines: each turn comes further in the trace, and says where the next one goes on. What is lent goes by name, as `layer::replay` takes it.
-fn write_all_lines<W: Write>(
-    output: &mut W,
-    trace: &[u8],
-    table: &mut [u32],
-    memory: &mut [u8],
-    flash: &[u8],
-) -> io::Result<()> {
-    let mut more = Some(0);
-    while let Some(at) = more {
-        more = write_lines(output, trace, at, table, memory, flash)?;
+impl Lent {
+    // Lines from a place of the trace on; the place to go on from, where there are more.
+    fn write_lines<W: Write>(
+        &mut self,
+        output: &mut W,
+        trace: &[u8],
+        at: usize,
+    ) -> io::Result<Option<usize>>
+        ensures { IfOk result (λ more. IfSome more (λ next. (at < next) × (next ≤ length trace.now))) }
+    {
+        let mut lines = [0u8; ROOM];
+        let progress = layer::replay(
+            trace,
+            at,
+            &mut self.table,
+            &mut self.memory,
+            &self.flash,
+            &mut lines,
+        );
+        let (more, written) = match progress {
+            Progress::Ended(n) => (None, &lines[..n]),
+            Progress::Paused(next, n) => (Some(next), &lines[..n]),
+        };
+        streams::put(output, written)?;
+        Ok(more)
     }
-    Ok(())
+
+    // All lines: each turn comes further in the trace, and says where the next one goes on.
+    fn write_all_lines<W: Write>(&mut self, output: &mut W, trace: &[u8]) -> io::Result<()> {
+        let mut more = Some(0);
+        while let Some(at) = more {
+            more = self.write_lines(output, trace, at)?;
+        }
+        Ok(())
+    }
 }
 
 fn replay<W: Write>(output: &mut W, trace: &[u8]) -> io::Result<()> {
-    let mut table = [0u32; Table::WORDS];
-    let mut memory = [0u8; Image::BYTES];
-    let flash = [0u8; Image::BYTES];
-    write_all_lines(output, trace, &mut table, &mut memory, &flash)
+    let mut lent = Lent {
+        table: [0; Table::WORDS],
+        memory: [0; Image::BYTES],
+        flash: [0; Image::BYTES],
+    };
+    lent.write_all_lines(output, trace)
 }
 
 // The line of a trace that is too long.

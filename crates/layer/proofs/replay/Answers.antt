@@ -1,7 +1,8 @@
 -- From place 0 the whole trace is played; from another the records there, on a table that is checked once.
 use mathlib.Core.Path.{ap}
 use borrow.Author.Rules.{rules}
-use Rattle.layer.proofs.ReplayLaws.{leaves_as, plays_whole, plays_on}
+use Rattle.layer.proofs.ReplayLaws.{leaves_as}
+use Rattle.layer.proofs.BeginLaws.{plays_whole, plays_on}
 use Rattle.layer.proofs.replay.Goals as goal
 
 pub returns-then-at-eq0 : goal.returns-then-at-eq0

@@ -21,5 +21,5 @@ returns c =
     let h : ℕ → Bool = λ i. not (eqb (get_or t (at + 1 + i * driver_words) 0) number) in
     let number_of = λ (d : Driver). d.number in
     let here = driver_read t at c.args.k (omega arith) in
-    all_below (differs_from (board_at t at) c.args.k) h c.args.k _ _ _ c.all.ensures.ran (cc) (λ x b q k. search (rules, tests))
+    all_below _ _ _ _ c.all.ensures.ran (cc) (differs_from (board_at t at) c.args.k) h (λ x b q k. search (rules, tests))
     (λ i l. ap₂ (λ n m. not (eqb n m)) (sym (ap number_of (driver_read t at i (omega arith)))) (ap number_of (c.driver-number.ensures ∙ sym here)))

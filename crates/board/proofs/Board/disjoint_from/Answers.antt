@@ -19,5 +19,5 @@ returns c =
     let j = c.args.process.0 in
     let b = areas_of c.areas-b.result in
     let h : ℕ → Bool = λ i. ram_disjoint (read_areas t (areas_from + i * areas_words)) b && flash_disjoint (read_areas t (areas_from + i * areas_words)) b in
-    all_below (apart_from (board_at t at) j) h j _ _ _ c.all.ensures.ran (cc) (λ x b q k. search (rules, tests))
+    all_below _ _ _ _ c.all.ensures.ran (cc) (apart_from (board_at t at) j) h (λ x b q k. search (rules, tests))
     (λ i l. ap₂ (λ a b. ram_disjoint a b && flash_disjoint a b) (sym (areas_read t at i (omega arith))) (c.areas-b.ensures ∙ sym (areas_read t at j (omega arith))))

@@ -1,7 +1,6 @@
 -- Each driver by the definition's test.
 use Rattle.std.proofs.Common.{rules, sym, ap, ◌+◌, ◌*◌, ◌&&◌, Bool, ℕ}
 use borrow.Author.Tests.{tests}
-use lib.ListN.{get_or}
 use Rattle.definition.specs.Tests.{every_below}
 use Rattle.definition.specs.Limits.{driver_words}
 use Rattle.definition.specs.Board.{good_driver}
@@ -17,5 +16,5 @@ returns c =
     let t = c.args.self.words.now in
     let at = c.args.self.at in
     let h : ℕ → Bool = λ k. good_driver (read_driver t (at + 1 + k * driver_words)) && every_below k (differs_from (board_at t at) k) in
-    all_below (good_driver_at (board_at t at)) h (get_or t at 0) _ _ _ c.all.ensures.ran (cc) (λ x b q k. search (rules, tests))
+    all_below _ _ _ _ c.all.ensures.ran (cc) (good_driver_at (board_at t at)) h (λ x b q k. search (rules, tests))
     (λ i l. ap (λ d. good_driver d && every_below i (differs_from (board_at t at) i)) (sym (driver_read t at i l)))

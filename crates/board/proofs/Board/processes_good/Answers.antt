@@ -1,7 +1,6 @@
 -- Each process by the definition's test.
 use Rattle.std.proofs.Common.{rules, sym, ap₂, ◌∙◌, ◌+◌, ◌*◌, ◌&&◌, Bool, ℕ}
 use borrow.Author.Tests.{tests}
-use lib.ListN.{get_or}
 use Rattle.definition.specs.Tests.{every_below}
 use Rattle.definition.specs.Limits.{areas_words}
 use Rattle.definition.specs.Board.{good_areas}
@@ -17,5 +16,5 @@ returns c =
     let t = c.args.self.words.now in
     let at = c.args.self.at in
     let h : ℕ → Bool = λ p. good_areas c.drivers-drivers.result (read_areas t (areas_from + p * areas_words)) && every_below p (apart_from (board_at t at) p) in
-    all_below (good_process_at (board_at t at)) h (get_or t 0 0) _ _ _ c.all.ensures.ran (cc) (λ x b q k. search (rules, tests))
+    all_below _ _ _ _ c.all.ensures.ran (cc) (good_process_at (board_at t at)) h (λ x b q k. search (rules, tests))
     (λ p l. ap₂ (λ n a. good_areas n a && every_below p (apart_from (board_at t at) p)) (c.drivers-drivers.ensures ∙ sym (drivers_read t at)) (sym (areas_read t at p l)))

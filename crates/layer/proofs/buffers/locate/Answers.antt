@@ -3,10 +3,10 @@ use Rattle.layer.proofs.RefusalLaws.{named_held}
 use Rattle.layer.proofs.QuestionLaws.{asked_refused, asked_told}
 use Rattle.layer.proofs.buffers.locate.Goals as goal
 
-pub returns-in_err-named : goal.returns-in_err-named
-returns-in_err-named c = asked_refused c.args.table.now _ _ _ _ _ _ c.from_residual.ensures.1 c.in_err-named.ensures.number
+pub returns-in_err-slot : goal.returns-in_err-slot
+returns-in_err-slot c = asked_refused c.args.table.now _ _ _ _ _ _ c.from_residual.ensures.1 c.in_err-slot.ensures.number
 
 pub returns : goal.returns
 returns c =
-    let named = c.in_ok-named.ensures in
+    let named = c.in_ok-slot.ensures in
     asked_told c.args.table.now _ _ _ _ named.number _ _ (named_held _ c.requires _ _ _ _ _ named.slot c.held-pair.result c.held-pair.ensures) c.area_of-area.ensures

@@ -8,7 +8,7 @@ use Rattle.layer.proofs.known.break_to.Goals.{then-new-areas-via-then-new-areas,
 
 pub returns-then-new-areas : goal.returns-then-new-areas
 returns-then-new-areas c =
-    break_fails _ c.requires.0 _ _ (areas_here _ _ c.board_of.ensures.words _ _ c.areas-areas.ensures c.requires.1) _ _
+    break_fails _ c.requires.0 _ _ (areas_here c.board_of.ensures.words c.areas-areas.ensures c.requires.1) _ _
     (elim c.then-new-areas.branch [
       | then-new-areas-via-then-new-areas w ↦ below_ram _ _ _ w.if-new-areas.true
       | then-new-areas-via-else-new-areas+then-new-areas-2 w ↦ above_grant _ _ _ w.if-new-areas-2.true
@@ -20,4 +20,4 @@ returns-then-new-areas c =
 pub returns : goal.returns
 returns c =
     let clears = sym (told _ c.requires.0 _ _ c.clears.ensures) ∙ c.if-not-clears.false in
-    break_moves _ c.requires.0 _ _ (areas_here _ _ c.board_of.ensures.words _ _ c.areas-areas.ensures c.requires.1) _ _ (let_go _ _ _ c.if-new-areas.false c.if-new-areas-2.false clears) _ c.set_break.ensures
+    break_moves _ c.requires.0 _ _ (areas_here c.board_of.ensures.words c.areas-areas.ensures c.requires.1) _ _ (let_go _ _ _ c.if-new-areas.false c.if-new-areas-2.false clears) _ c.set_break.ensures

@@ -10,14 +10,14 @@ use Rattle.layer.proofs.known.command.Goals as goal
 use Rattle.layer.proofs.known.command.Goals.{In-Some, After-driver, then-driver-eq0-via-then-driver-eq0, then-driver-eq0-via-else-driver-eq0+then-number-gt3}
 
 reached : (c : In-Some) → Reaches c.args.table.now c.args.process.0 c.args.driver.0 (at_place c.in-Some.place)
-reached c = let board = c.board_of-board.ensures in reach_here _ _ board.words _ _ c.areas-areas.ensures c.requires.1 _ board.place _ _ c.in-Some.ensures.reached
+reached c = let board = c.board_of-board.ensures in reach_here board.words c.areas-areas.ensures c.requires.1 board.place _ c.in-Some.ensures.reached
 
 found : (c : After-driver) → driver_of c.driver.result ≡ driver_at (state_of c.args.table.now).board c.in-Some.place
-found c = let board = c.board_of-board.ensures in driver_here _ _ board.words _ board.place _ (c.in-Some.ensures.within _ refl) _ c.driver.ensures
+found c = let board = c.board_of-board.ensures in driver_here board.words board.place (c.in-Some.ensures.within _ refl) c.driver.ensures
 
 pub returns-in_default : goal.returns-in_default
 returns-in_default c x y =
-    let board = c.board_of-board.ensures in command_absent _ c.requires.0 _ _ _ x y (reach_here _ _ board.words _ _ c.areas-areas.ensures c.requires.1 _ board.place _ _ c.in_default.ensures.reached) _ c.failure.ensures
+    let board = c.board_of-board.ensures in command_absent _ c.requires.0 _ _ _ x y (reach_here board.words c.areas-areas.ensures c.requires.1 board.place _ c.in_default.ensures.reached) _ c.failure.ensures
 
 pub returns-then-number-eq0 : goal.returns-then-number-eq0
 returns-then-number-eq0 c x y = command_zero _ c.requires.0 _ _ _ x y _ (reached (goal.at.returns-then-number-eq0 c).In-Some) c.if-number-eq0.true _ c.success.ensures

@@ -7,4 +7,4 @@ pub clear-requires : goal.clear-requires
 clear-requires c = freed_held _ c.requires.0 _ c.requires.1 _ c.free_all.ensures
 
 pub returns : goal.returns
-returns c = left _ c.requires.0 _ c.requires.1 _ c.free_all.ensures _ (areas_here _ _ c.board_of.ensures.words _ _ c.areas-first_break.ensures c.requires.1) _ _ c.clear.ensures
+returns c = left _ c.requires.0 _ c.requires.1 _ c.free_all.ensures _ (areas_here c.board_of.ensures.words c.areas-first_break.ensures c.requires.1) _ _ c.clear.ensures

@@ -5,5 +5,5 @@ use Rattle.layer.proofs.refusals.named.Goals as goal
 pub invariant_of-result : goal.invariant_of-result
 invariant_of-result c =
     let board = c.board_of-board.ensures in
-    let within = slot_within _ _ board.words _ board.place _ c.in-Some.ensures.within _ _ c.slots.ensures c.requires.0 _ c.if-number-slots.false in
+    let within = slot_within board.words board.place c.in-Some.ensures.within _ c.slots.ensures c.requires.0 c.if-name-slots.false in
     record { place_within = within.0; number_within = within.1 }

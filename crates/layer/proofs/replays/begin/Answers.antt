@@ -6,7 +6,7 @@ use native.Mathlib.Omega.{arith}
 use lib.ListN.{length, take, length-take}
 use borrow.Author.Rules.{rules}
 use Rattle.trace.specs.Answers.{board_found, board_read}
-use Rattle.layer.proofs.ReplayLaws.{plays_broken, plays_board}
+use Rattle.layer.proofs.BeginLaws.{plays_broken, plays_board}
 use Rattle.layer.proofs.replays.begin.Goals as goal
 
 -- as many words as are taken are there

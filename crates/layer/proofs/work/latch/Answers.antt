@@ -1,8 +1,6 @@
 -- A refusal changes nothing; else the driver's claim has the peak's word for its latch.
-use mathlib.Core.Path.{ap, ◌∙◌}
-use mir.Syntax.{w32}
-use mir.ValLaws.{to_z-of_z}
-use Rattle.definition.specs.Signed.{word_of}
+use mathlib.Core.Path.{refl, ◌∙◌}
+use Rattle.layer.proofs.WordLaws.{register_word}
 use Rattle.layer.proofs.LatchLaws.{latch_refused, latch_stored}
 use Rattle.layer.proofs.work.latch.Goals as goal
 
@@ -12,4 +10,4 @@ returns-in_err-place c = latch_refused _ c.requires _ _ _ _ c.from_residual.ensu
 pub returns : goal.returns
 returns c =
     let found = c.in_ok-place.ensures in
-    latch_stored _ c.requires _ _ found.number _ found.place _ _ (c.to_word.ensures ∙ ap word_of (to_z-of_z w32 c.args.peak c.ranges.peak)) c.set_latch.ensures
+    latch_stored _ c.requires _ _ found.number _ (found.place _ refl) _ _ (c.to_word.ensures ∙ register_word _ c.ranges.peak) c.set_latch.ensures

@@ -1,10 +1,7 @@
 -- What is read off the run is so of the process.
 use lib.ListN.{length}
-use Rattle.table.specs.Lift.{holds_run, run_tells}
+use Rattle.table.specs.Lift.{run_tells}
 use Rattle.table.proofs.runs.queued.Goals as goal
-
-pub queued-requires : goal.queued-requires
-queued-requires c = holds_run _ _ c.requires.1 _ c.run_of.ensures.words c.requires.0
 
 pub returns : goal.returns
 returns c = run_tells _ _ c.requires.1 _ c.run_of.ensures.words (λ p. length p.queue) _ c.queued.ensures

@@ -12,7 +12,7 @@ use Rattle.layer.proofs.replays.Lent.put_fetch.Goals as goal
 
 pub returns-in-Err : goal.returns-in-Err
 unfolding step_of provided◌then◌else◌
-returns-in-Err c = told_refused _ _ _ _ _ _ _ _ _ c.in-Err.ensures _ _ _ _ c.requires c.put_answer.ensures
+returns-in-Err c = told_refused _ _ _ _ _ _ _ _ _ c.in-Err.ensures _ _ _ _ c.requires c.put_given.ensures
 
 pub returns-then-not-part_fits : goal.returns-then-not-part_fits
 unfolding step_of provided◌then◌else◌

@@ -1,6 +1,6 @@
 use mathlib.Core.Path.{refl, ◌∙◌}
 use native.Mathlib.Omega.{arith}
-use Rattle.layer.proofs.ReplayLaws.{going_start, going_done, going_on, going_ended, going_full}
+use Rattle.layer.proofs.ReplayLaws.{going_start, going_done, going_on, going_stops}
 use Rattle.layer.proofs.replays.Lent.records.Goals as goal
 
 pub loop-i-init : goal.loop-i-init
@@ -13,23 +13,18 @@ take_turn-requires c =
 
 pub loop-i-smaller : goal.loop-i-smaller
 loop-i-smaller c =
-    let g = going_on _ _ _ _ _ _ _ c.loop-i.invariant.1 _ _ _ c.take_turn.ensures.turned c.take_turn.auto.out c.in-On.is in
+    let g = going_on _ _ _ _ _ _ _ c.loop-i.invariant.1 _ _ _ c.take_turn.ensures.turned c.take_turn.auto.out c.in-Ok.is in
     omega (arith, g.1, c.loop-i-test.true)
 
 pub loop-i-preserved : goal.loop-i-preserved
 loop-i-preserved c =
     let l = c.loop-i.invariant in
-    (c.take_turn.ensures.same ∙ l.0, (going_on _ _ _ _ _ _ _ l.1 _ _ _ c.take_turn.ensures.turned c.take_turn.auto.out c.in-On.is).0)
+    (c.take_turn.ensures.same ∙ l.0, (going_on _ _ _ _ _ _ _ l.1 _ _ _ c.take_turn.ensures.turned c.take_turn.auto.out c.in-Ok.is).0)
 
-pub returns-in-Ended : goal.returns-in-Ended
-returns-in-Ended c =
+pub returns-in-Err : goal.returns-in-Err
+returns-in-Err c =
     let l = c.loop-i.invariant in
-    record { leaves = going_ended _ _ _ _ _ _ _ l.1 _ _ _ c.take_turn.ensures.turned c.take_turn.auto.out c.in-Ended.is; same = c.take_turn.ensures.same ∙ l.0 }
-
-pub returns-in-Full : goal.returns-in-Full
-returns-in-Full c =
-    let l = c.loop-i.invariant in
-    record { leaves = going_full _ _ _ _ _ _ _ l.1 _ _ _ c.take_turn.ensures.turned c.take_turn.auto.out c.in-Full.is; same = c.take_turn.ensures.same ∙ l.0 }
+    record { leaves = going_stops _ _ _ _ _ _ _ l.1 _ _ _ c.take_turn.ensures.turned c.take_turn.auto.out _ c.in-Err.is; same = c.take_turn.ensures.same ∙ l.0 }
 
 pub returns : goal.returns
 returns c = record { leaves = going_done _ _ _ _ _ _ _ c.loop-i.invariant.1 c.loop-i-test.false; same = c.loop-i.invariant.0 }

@@ -1,9 +1,8 @@
 -- Each process by the definition's test.
-use Rattle.std.proofs.Common.{rules, refl}
+use Rattle.std.proofs.Common.{rules}
 use borrow.Author.Tests.{tests}
-use Rattle.board.specs.Below.{all_below}
-use Rattle.table_check.specs.Parts.{good_process_of}
+use Rattle.board.specs.Below.{all_same}
 use Rattle.table_check.proofs.checks.Formed.processes_good.Goals as goal
 
 pub returns : goal.returns
-returns c = let f = good_process_of c.args.self.table.now in all_below f f _ _ _ _ c.all.ensures.ran (cc) (λ x b q k. search (rules, tests)) (λ i h. refl)
+returns c = all_same _ _ _ _ c.all.ensures.ran (cc) _ (λ x b q k. search (rules, tests))

@@ -17,4 +17,4 @@ returns c =
     let run = c.args.self.now.run.now in
     let good = good_upcall (board_at c.args.self.now.board.words.now c.args.self.now.board.at) (read_process run) in
     let n = queue_count run in
-    all_below (λ i. good (get_or (read_process run).queue i no_upcall)) (λ i. good (read_upcall run (queue_from + i * words_in_upcall))) _ _ _ _ c.all.ensures.ran (cc) (λ x b q k. search (rules, tests)) (λ i h. ap good (upcall_read run i (omega arith)))
+    all_below _ _ _ _ c.all.ensures.ran (cc) (λ i. good (get_or (read_process run).queue i no_upcall)) (λ i. good (read_upcall run (queue_from + i * words_in_upcall))) (λ x b q k. search (rules, tests)) (λ i h. ap good (upcall_read run i (omega arith)))

@@ -25,5 +25,5 @@ returns c =
     let i = c.args.row * max_slots in
     let f : ℕ → Bool = λ j. good_slot b a process.break (i + j) (get_or process.slots (i + j) null) in
     let h : ℕ → Bool = λ j. let x = get_or process.slots (i + j) null in provided ltb j c.slots_in-count.result then holdable (kind_of c.kind_at-kind.result) a (get_or c.args.self.now.run.now 1 0) x else is_null x in
-    all_below f h max_slots _ _ _ c.all.ensures.ran (cc) (λ x b q k. search (rules, tests))
+    all_below _ _ _ _ c.all.ensures.ran (cc) f h (λ x b q k. search (rules, tests))
     (λ j l. row_turn c.args.row j l b a c.args.self.now.run.now _ _ _ c.kind_at-kind.ensures c.slots_in-count.ensures)
