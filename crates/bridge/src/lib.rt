@@ -1,5 +1,6 @@
 // The bridge from the code to the promises: for each public step of the layer, and for its run, a function that calls it and ensures that this was a call as the
 // promises speak of it. So what they speak of is held to the layer's own contracts by the checker, and a list of calls of these functions isolates.
+// Parameters stand one by one, as the layer takes them.
 #![tactic(auto)]
 
 ghost use Rattle.std.specs.Prelude.{ℕ, List};

@@ -38,7 +38,8 @@ pub(crate) fn words_fetched(fetched: Result<Place, Refusal>) -> [u32; 6]
     }
 }
 
-// The kind of slot that a class lends buffers in; for a class that lends none, one that holds none.
+// The kind of slot that a class lends buffers in; for a class that lends none, one that holds none, and no Option, as the
+// definition's `lent_by` has it.
 pub(crate) fn lent_by(class: u8) -> Kind
     ensures { kind_of result ≡ lent_by class }
 {

@@ -1,6 +1,7 @@
 // What a C or Rust host calls: the layer's steps on numbers and slices, where a held buffer lies, its run over a trace, and its sizes. Each takes any
 // numbers and slices; a step says what it did in six words of a slice that the host lends, and the run in three.
 // They give a `bool`, and take each thing by itself, for C. That there is room for the words comes first in each: nothing may be done where there is none.
+// One function for that would take the step as a closure, and its clauses would have to tell of what is lent to it.
 #![tactic(auto)]
 
 ghost use Rattle.std.specs.Prelude.{◌≡◌, get_or};

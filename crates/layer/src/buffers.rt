@@ -1,4 +1,5 @@
 // Held buffers of a checked table: where one lies, for a fetch and for a host that asks.
+// `Holds` stays a clause, for the reason that stands in `table/src/lib.rt`.
 ghost use Rattle.std.specs.Prelude.{◌≡◌, ◌<◌, get_or};
 ghost use Rattle.definition.specs.Board.{areas_at};
 ghost use Rattle.definition.specs.Area.{area_of};

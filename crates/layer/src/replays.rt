@@ -222,7 +222,7 @@ fn start_on(
     lent.records(trace, next, out, used)
 }
 
-// The whole trace, from its board on.
+// The whole trace, from its board on, whose words `board_at` counts.
 #[tactic(auto, using(crate::proofs::BeginLaws::none_told, crate::proofs::BeginLaws::none_lent, crate::proofs::BeginLaws::none_lines))]
 pub(crate) fn begin(
     trace: &[u8],

@@ -29,7 +29,7 @@ struct Lent {
 }
 
 impl Lent {
-    // Lines from a place of the trace on; the place to go on from, where there are more.
+    // Lines from a place of the trace on, as many bytes of them as the run tells; the place to go on from, where there are more.
     fn write_lines<W: Write>(
         &mut self,
         output: &mut W,

@@ -61,7 +61,8 @@ fn read_some<R: Read>(input: &mut R, bytes: &mut [u8]) -> io::Result<usize>
     input.read(bytes)
 }
 
-// Reads all of a reader to the front of a slice, or tells why it cannot: so many bytes, as `read` counts them, or `None` where there are as many as there is room for, or more.
+// Reads all of a reader to the front of a slice, or tells why it cannot: so many bytes, as `read` counts them, or `None` where there are as many as there is
+// room for, or more.
 // `read_exact` calls an end before the slice is full an error, and would not tell how far it came.
 pub(crate) fn get<R: Read>(input: &mut R, bytes: &mut [u8]) -> io::Result<Option<usize>>
     ensures count { All (length bytes.old) result }
