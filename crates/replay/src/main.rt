@@ -30,6 +30,8 @@ struct Lent {
 
 impl Lent {
     // Lines from a place of the trace on, as many bytes of them as the run tells; the place to go on from, where there are more.
+    // Their room is on the stack of this function alone: a trace that is too long or cannot be read is told without it.
+    #[inline(never)]
     fn write_lines<W: Write>(
         &mut self,
         output: &mut W,
